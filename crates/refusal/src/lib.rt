@@ -2,3 +2,4 @@
 // specs/Codes.antt gives each its number and its layer, once for all; every promise cites it.
 pub mod code;
 pub mod file;
+pub mod pmap;
