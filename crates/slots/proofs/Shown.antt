@@ -422,6 +422,7 @@ module _ (t : Table) (v : View) (S : Shows t v) (s p n : ℕ) where
   seek a b (Some m) e = S .only a b m e .at
 
   seek-finds : (a b : ℕ) (o : Option Mapping) (e : v .held a b ≡ o) → isWired o ≡ true → (d : Entry) × (t .slot (seek a b o e) ≡ Some d) × (d .space ≡ a) × (d .page ≡ b) × (d .wired ≡ true)
+  unfolding seek
   seek-finds a b None e w = absurd (both-ways false refl w)
   seek-finds a b (Some m) e w =
       let h = S .only a b m e in
