@@ -1,0 +1,7 @@
+pub mod Lists
+pub mod State
+pub mod Refusals
+pub mod Paging
+pub mod Rules
+pub mod History
+pub mod Laws
