@@ -1,0 +1,1 @@
+// The memory: resident pages over any pmap.
