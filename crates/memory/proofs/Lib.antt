@@ -1,2 +1,4 @@
 pub mod Firsts
 pub mod Matching
+pub mod Ranging
+pub mod StoredPages

@@ -1,1 +1,3 @@
 pub mod Matches
+pub mod Ranges
+pub mod Storing

@@ -1,1 +1,2 @@
 // The memory: resident pages over any pmap.
+mod pages;
