@@ -7,7 +7,7 @@ ghost use Rattle.std.specs.Results.{isOk, Cases};
 ghost use Rattle.std.specs.declared.option.Option.the-variants.{Some};
 ghost use Rattle.pmap.specs.Meaning.{lowered};
 ghost use Rattle.memory.specs.Ranges.{Over, nothing};
-ghost use Rattle.memory.specs.Storing.{StoresOne};
+ghost use Rattle.memory.specs.Storing.{StoresOne, StoresBelow, OnePageEach};
 use pmap::interface::Pmap;
 use refusal::pmap::PmapRefusal;
 
@@ -55,4 +55,19 @@ pub fn store_page<P: Pmap>(x: usize, page: Option<u16>, object: u8, pmap: &mut P
     store[x] = words[usize::from(frame)];
     pmap.clear_modified(frame)?;
     Ok(true)
+}
+
+// Stores the modified pages of an object by rising index, clears their frames' modified state, and says how many there were.
+pub fn store_pages<P: Pmap>(records: &[Option<u16>], object: u8, pmap: &mut P, words: &[u32], store: &mut [u32]) -> Result<u32, PmapRefusal>
+    requires { ⌜ kept (now pmap) ⌝ ∗ ⌜ length (now records) ≡ 2048 ⌝ ∗ ⌜ length (now store) ≡ 2048 ⌝ ∗ ⌜ length (now words) ≡ 256 ⌝ ∗ ⌜ OnePageEach (now records) ⌝ }
+    ensures stores { λ r. ⌜ Cases r (λ n. StoresBelow (view (now (pmap .entry))) (view (now (pmap .exit))) (now (store .entry)) (now (store .exit)) (now (words .entry)) (now (records .entry)) object 2048 n) (λ _. ⊥) ⌝ }
+    ensures kept { λ _. ⌜ kept (now (pmap .exit)) ⌝ }
+{
+    let mut stored: u32 = 0;
+    for (x, page) in records.iter().enumerate() {
+        if store_page(x, *page, object, pmap, words, store)? {
+            stored += 1;
+        }
+    }
+    Ok(stored)
 }
