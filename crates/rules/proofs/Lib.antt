@@ -1,3 +1,4 @@
 pub mod Lists
 pub mod Queues
 pub mod Loads
+pub mod GoodKept
