@@ -1,7 +1,7 @@
 -- How object pages come into frames and go out of them. Assumes nothing.
 use mathlib.Core.List.{List, [], _∷_, _++_, map}
 use mathlib.Core.Bool.{Bool, true, false, cond, not, _&&_, _||_}
-use Prim.Native.Nat.{ℕ, _+_, _*_, _/_, _%_}
+use Prim.Native.Nat.{ℕ, _/_, _%_}
 use lib.Dec.{eqb, ltb}
 use lib.ListN.{length, getD, set}
 use Rattle.std.specs.Iters.{counting}
@@ -123,4 +123,4 @@ synced s o = record {
   counts = s .counts }
 
 abbrev pub syncedCount : State → ℕ → ℕ
-syncedCount s o = tally (λ i. isModified s (256 * o + i)) 256
+syncedCount s o = tally (λ x. eqb (x / 256) o && isModified s x) 2048
