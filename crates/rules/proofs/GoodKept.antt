@@ -143,10 +143,10 @@ module _ (s : State) (x : ℕ) (g : Good s) (low : x < 2048) where
 
 -- a new memory
 
-none-at : (n x : ℕ) → getD (replicate n (None {T = ℕ})) x None ≡ None
+none-at : (n x : ℕ) → getD {A = Option ℕ} (replicate n None) x None ≡ None
 none-at n x = ⊎-elim
     (λ (h : x < n). getD-replicate n x None None h)
-    (λ (h : n ≤ x). getD-past (replicate n None) x None (let l = length-replicate n (None {T = ℕ}) in omega arith))
+    (λ (h : n ≤ x). getD-past (replicate n None) x None (let l = length-replicate {A = Option ℕ} n None in omega arith))
     (cases-lt x n)
 
 pub no-lie : (n x : ℕ) → lie (fresh n) x ≡ None
@@ -161,9 +161,9 @@ pub good-fresh : (n : ℕ) → n ≤ 256 → Good (fresh n)
 unfolding noPages noFrames startingWords
 good-fresh n few = record {
   frames-few = few;
-  lies-long = length-replicate 2048 (None {T = ℕ});
-  owners-long = length-replicate 256 0;
-  words-long = length-replicate 256 0;
+  lies-long = length-replicate {A = Option ℕ} 2048 None;
+  owners-long = length-replicate {A = ℕ} 256 0;
+  words-long = length-replicate {A = ℕ} 256 0;
   store-long = length-counting 0 2048;
   regions-few = omega arith;
   regions-fit = tt;
@@ -280,13 +280,16 @@ good-written s x f w g lies = record {
 
 -- an object is synced
 
+pub length-stored : (s : State) (o : ℕ) → length (storedWords s o) ≡ 2048
+unfolding storedWords
+length-stored s o = length-map-counting (storedWord s o) 0 2048
+
 pub stored-at : (s : State) (o x : ℕ) → x < 2048 → getD (storedWords s o) x 0 ≡ storedWord s o x
 unfolding storedWords
 stored-at s o x h = getD-map-counting (storedWord s o) 0 2048 x x 0 h (omega arith)
 
 pub stored-past : (s : State) (o x : ℕ) → 2048 ≤ x → getD (storedWords s o) x 0 ≡ 0
-unfolding storedWords
-stored-past s o x h = getD-past (map (storedWord s o) (counting 0 2048)) x 0 (let l = length-map-counting (storedWord s o) 0 2048 in omega arith)
+stored-past s o x h = getD-past (storedWords s o) x 0 (let l = length-stored s o in omega arith)
 
 -- a page that is not modified keeps its stored word
 pub stored-same : (s : State) (o x : ℕ) → isModified s x ≡ false → storedWord s o x ≡ getD (s .store) x 0
@@ -314,7 +317,7 @@ good-synced s o g = record {
   lies-long = g .lies-long;
   owners-long = g .owners-long;
   words-long = g .words-long;
-  store-long = long;
+  store-long = length-stored s o;
   regions-few = g .regions-few;
   regions-fit = g .regions-fit;
   queue-few = g .queue-few;
@@ -328,10 +331,6 @@ good-synced s o g = record {
   wired-few = g .wired-few;
   wired-used = g .wired-used }
   where
-    long : length (storedWords s o) ≡ 2048
-    unfolding storedWords
-    long = length-map-counting (storedWord s o) 0 2048
-
     clean : (x f : ℕ) → lie s x ≡ Some f → (s .dirty f && not (eqb (owner s f / 256) o)) ≡ false → getD (s .words) f 0 ≡ getD (storedWords s o) x 0
     clean x f e d = ⊎-elim
         (λ (q : s .dirty f ≡ false).

@@ -2,3 +2,4 @@ pub mod Lists
 pub mod Queues
 pub mod Loads
 pub mod GoodKept
+pub mod Accepted
