@@ -1,0 +1,5 @@
+pub mod Lists
+pub mod Queues
+pub mod Loads
+pub mod GoodKept
+pub mod Accepted
