@@ -11,7 +11,7 @@ use Rattle.std.specs.Holes.{removed}
 use Rattle.std.specs.declared.option.Option.the-variants.{Some, None}
 use Rattle.std.proofs.shelf.Tests.{cases-bool, cond-false, or-parts}
 use Rattle.rules.specs.Lists.{first, place, any, without, changed}
-use Rattle.rules.proofs.Lists.{placed, place-some, place-none}
+use Rattle.rules.proofs.Lists.{placed, place-some, place-none, first-none}
 
 pub without-none : {A : Type 0} (test : A → Bool) (xs : List A) → any test xs ≡ false → without test xs ≡ xs
 unfolding any without
@@ -29,6 +29,9 @@ module _ {A : Type 0} (test : A → Bool) (xs : List A) where
   pub place-inside : (i : ℕ) → place test xs ≡ Some i → i < length xs
   place-inside i e = placed test xs i e .inside
 
+  pub place-any : (i : ℕ) → place test xs ≡ Some i → any test xs ≡ true
+  place-any i e = any-place ∙ ap isSome e
+
   -- the element there is the first that passes
   pub place-first : (i : ℕ) (d : A) → place test xs ≡ Some i → first test xs ≡ Some (getD xs i d)
   place-first i d e = placed test xs i e .found d
@@ -40,6 +43,12 @@ module _ {A : Type 0} (test : A → Bool) (xs : List A) where
   pub set-is : (f : A → A) (i : ℕ) (d : A) → place test xs ≡ Some i → set xs i (f (getD xs i d)) ≡ changed test f xs
   set-is f i d e = sym (placed test xs i e .put f d)
 
-  -- where there is none, the list stays
+  -- where there is none
+  pub nowhere-any : place test xs ≡ None → any test xs ≡ false
+  nowhere-any e = any-place ∙ ap isSome e
+
+  pub nowhere-first : place test xs ≡ None → first test xs ≡ None
+  nowhere-first e = first-none test xs (nowhere-any e)
+
   pub nowhere-without : place test xs ≡ None → without test xs ≡ xs
-  nowhere-without e = without-none test xs (any-place ∙ ap isSome e)
+  nowhere-without e = without-none test xs (nowhere-any e)
