@@ -3,3 +3,4 @@ pub mod Queues
 pub mod Loads
 pub mod GoodKept
 pub mod Accepted
+pub mod Agreement
