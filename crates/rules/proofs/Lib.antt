@@ -4,3 +4,4 @@ pub mod Loads
 pub mod GoodKept
 pub mod Accepted
 pub mod Agreement
+pub mod Words
