@@ -5,3 +5,4 @@ pub mod GoodKept
 pub mod Accepted
 pub mod Agreement
 pub mod Words
+pub mod Whole
