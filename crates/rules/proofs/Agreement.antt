@@ -1,6 +1,6 @@
 -- Two memories of one number of frames that are given the same calls agree after each, but for hit and soft fault. Assumes nothing.
 use mathlib.Core.Path.{_≡_, refl, sym, ap, subst, fun-ext, _∙_}
-use mathlib.Core.List.{List, [], _∷_, map}
+use mathlib.Core.List.{List, map}
 use mathlib.Core.Bool.{Bool, true, false, cond, not}
 use Prim.Native.Nat.{ℕ, _+_}
 use native.Mathlib.Omega.{arith}
@@ -12,27 +12,23 @@ use Rattle.std.specs.declared.option.Option.{Option}
 use Rattle.std.specs.declared.option.Option.the-variants.{Some, None}
 use Rattle.std.specs.declared.result.Result.the-variants.{Ok, Err}
 use Rattle.refusal.specs.declared.memory.MemoryRefusal.{MemoryRefusal}
-use Rattle.refusal.specs.declared.memory.MemoryRefusal.the-variants.{CallLimit, Range, ReadOnly, Wired as WiredRefusal, WiredFull}
+use Rattle.refusal.specs.declared.memory.MemoryRefusal.the-variants.{CallLimit, ReadOnly, Wired as WiredRefusal, WiredFull}
 use Rattle.calls.specs.declared.Call.{Call}
 use Rattle.calls.specs.declared.Call.the-variants.{Map, Unmap, Protect, Read, Write, Wire, Unwire, Sync}
 use Rattle.rules.specs.declared.answer.Kind.{Kind}
 use Rattle.rules.specs.declared.answer.Kind.the-variants.{Hit, Soft, Hard}
-use Rattle.rules.specs.declared.answer.Evicted.{Evicted}
 use Rattle.rules.specs.declared.answer.Evicted.the-variants.{Nothing}
-use Rattle.rules.specs.declared.answer.Answer.{Answer}
 use Rattle.rules.specs.declared.answer.Answer.the-variants.{Done, Read as ReadAnswer, Wrote, Wired, Synced}
 use Rattle.rules.specs.declared.counts.Counts.{Counts}
 use Rattle.rules.specs.declared.region.Region.{Region}
-use Rattle.rules.specs.Lists.{first, any}
+use Rattle.rules.specs.Lists.{any}
 use Rattle.rules.specs.State.{State, lie, isModified, pageIn}
-use Rattle.rules.specs.Refusals.{refuse, cover, begins, isPlace, wantsFrame, readRefusal, writeRefusal, wireRefusal, regionRefusal, callRefusal, refusal}
+use Rattle.rules.specs.Refusals.{refuse, isPlace, wantsFrame, readRefusal, writeRefusal, wireRefusal, regionRefusal, callRefusal, refusal}
 use Rattle.rules.specs.Paging.{load, unused, victim, replaced, replacedPage, residentBy, resident, evictedBy, writtenTo, wordIn, storedWord, storedWords, synced}
-use Rattle.rules.specs.Rules.{Reply, kindOf, pageAt, answer, wiredTo, written, wiredAt, moved, withCounts, isKind, one, ofKind, loadsIn, evictedIn, evictions, storedIn, refusedIn, isLimit, added, counted, replyBy, reply, movedBy, after}
-use Rattle.rules.specs.History.{Moment, shown, MayHit, May, Passed, begun, called}
+use Rattle.rules.specs.Rules.{Reply, kindOf, pageAt, answer, wiredTo, moved, withCounts, isKind, one, ofKind, loadsIn, evictedIn, evictions, storedIn, refusedIn, isLimit, added, counted, replyBy, reply, movedBy, after}
+use Rattle.rules.specs.History.{Moment, shown, May, Passed, begun, called}
 use Rattle.rules.specs.Laws.{blurKind, blur, CountsAgree, MomentsAgree, Agree, at-start, at-call, callsOf}
-
-never : {B : Type 0} → _≡_ {A = ℕ} 0 1 → B
-never e = absurd (omega arith)
+use Rattle.rules.proofs.Lists.{never}
 
 -- a call depends on the counts only by the limit of calls
 

@@ -1,41 +1,36 @@
 -- Each call leaves what the state of a memory keeps. Assumes nothing.
-use mathlib.Core.Path.{_≡_, refl, sym, ap, subst, _∙_}
-use mathlib.Core.Logic.{_⊎_, inl, inr, ⊎-elim}
-use mathlib.Core.List.{List, [], _∷_, _++_, map}
-use mathlib.Core.Bool.{Bool, true, false, cond, not, _&&_, _||_}
-use Prim.Native.Nat.{ℕ, _+_, _-_, _*_, _/_, _%_, _<_, _≤_}
+use mathlib.Core.Path.{_≡_, refl, sym, ap, _∙_}
+use mathlib.Core.Logic.{⊎-elim}
+use mathlib.Core.List.{List, [], _∷_, _++_}
+use mathlib.Core.Bool.{Bool, true, false, cond, not, _&&_}
+use Prim.Native.Nat.{ℕ, _+_, _*_, _/_, _%_, _<_, _≤_}
 use native.Mathlib.Omega.{arith}
-use lib.Dec.{eqb, ltb, leb}
-use lib.ListN.{length, getD, set, replicate}
+use lib.Dec.{eqb}
+use lib.ListN.{length, getD, replicate}
 use Rattle.std.specs.shelf.Lists.{All}
-use Rattle.std.specs.Iters.{counting}
-use Rattle.std.proofs.shelf.Lists.{length-set, length-push, length-replicate, getD-replicate, getD-set-same, getD-set-other, getD-past}
-use Rattle.std.proofs.shelf.Counted.{length-counting, getD-counting, length-map-counting, getD-map-counting}
-use Rattle.std.proofs.shelf.Elements.{all-weaker, all-push}
-use Rattle.std.proofs.shelf.Tests.{cases-bool, cases-eq, cases-lt, eq-eqb, ne-eqb, eqb-true, eqb-false, ltb-true, ltb-false, leb-true, leb-false, both-ways, not-true, not-false, and-parts, and-from, and-cases, and-right, or-parts, or-cases, or-left, or-right, cond-both, cond-true, cond-false}
+use Rattle.std.proofs.shelf.Lists.{length-set, length-push, length-replicate, getD-replicate, getD-set-other, getD-past}
+use Rattle.std.proofs.shelf.Counted.{length-counting, length-map-counting, getD-map-counting}
+use Rattle.std.proofs.shelf.Elements.{all-push}
+use Rattle.std.proofs.shelf.Tests.{cases-bool, cases-lt, eq-eqb, eqb-true, eqb-false, ltb-true, not-false, and-parts, and-from, and-cases, and-right, or-parts, or-cases, cond-true, cond-false}
 use Rattle.std.specs.declared.option.Option.{Option}
 use Rattle.std.specs.declared.option.Option.the-variants.{Some, None}
 use Rattle.refusal.specs.declared.memory.MemoryRefusal.{MemoryRefusal}
 use Rattle.refusal.specs.declared.memory.MemoryRefusal.the-variants.{NoFrame}
-use Rattle.pmap.specs.Ranges.{fitsPlace, fitsProtection}
 use Rattle.rules.specs.declared.answer.Evicted.{Evicted}
-use Rattle.rules.specs.declared.answer.Evicted.the-variants.{Nothing, Page}
+use Rattle.rules.specs.declared.answer.Evicted.the-variants.{Nothing}
 use Rattle.rules.specs.declared.counts.Counts.{Counts}
 use Rattle.rules.specs.declared.region.Region.{Region}
 use Rattle.rules.specs.declared.region.WiredPlace.{WiredPlace}
-use Rattle.rules.specs.Lists.{first, any, without, changed}
-use Rattle.rules.specs.State.{State, lie, dirtyIn, isModified, pageIn, noPages, noFrames, startingWords, fresh}
-use Rattle.rules.specs.Refusals.{refuse, covers, cover, begins, isPlace, onFrame, free, hasFrame, wantsFrame, fitsMap}
+use Rattle.rules.specs.Lists.{any, without}
+use Rattle.rules.specs.State.{State, lie, dirtyIn, isModified, noPages, noFrames, startingWords, fresh}
+use Rattle.rules.specs.Refusals.{refuse, isPlace, free, hasFrame, wantsFrame}
 use Rattle.rules.specs.Paging.{owner, victim, evict, load, unused, replaced, replacedPage, evictedPage, brought, broughtOut, residentBy, resident, evictedBy, writtenTo, wordIn, storedWord, storedWords, synced}
-use Rattle.rules.specs.Rules.{withRegions, withWired, wiredTo, withCounts, withProtection}
-use Rattle.rules.specs.Good.{Good, inUse, Apart, regionFits}
+use Rattle.rules.specs.Rules.{withRegions, withWired, wiredTo, withCounts}
+use Rattle.rules.specs.Good.{Good, inUse, regionFits}
 use Rattle.rules.specs.Laws.{isEvicted}
-use Rattle.rules.proofs.Lists.{first-passes, first-some, first-all-of, any-first, all-without, length-without-le, all-changed, length-changed, any-push-old}
+use Rattle.rules.proofs.Lists.{never, first-passes, first-some, all-without, length-without-le}
 use Rattle.rules.proofs.Queues.{first-has}
-use Rattle.rules.proofs.Loads.{content, wordOf, lie-low, owner-low, used-low, Ready, ready-unused, ready-evicted, lie-evicted, lie-evict, content-evict, modified-evict, modified-evicted, lie-loaded, content-load, modified-load, good-loaded}
-
-never : {B : Type 0} → _≡_ {A = ℕ} 0 1 → B
-never e = absurd (omega arith)
+use Rattle.rules.proofs.Loads.{content, wordOf, lie-low, Ready, ready-unused, ready-evicted, lie-evict, content-evict, modified-evict, modified-evicted, lie-loaded, content-load, modified-load, good-loaded}
 
 -- what is not refused passed the test
 pub refuse-none : (b : Bool) (e : MemoryRefusal) (o : Option MemoryRefusal) → refuse b e o ≡ None → (b ≡ false) × (o ≡ None)
@@ -180,15 +175,15 @@ good-fresh n few = record {
 
 -- other regions, wired places or counts
 
-pub good-withRegions : (s : State) (rs : List Region) → Good s → length rs ≤ 64 → All regionFits rs → Good (withRegions s rs)
-good-withRegions s rs g few fit = record {
+good-with : (s : State) (rs : List Region) (ws : List WiredPlace) (n : Counts) → Good s → length rs ≤ 64 → All regionFits rs → length ws ≤ 8 → All (λ w. inUse s (w .frame) ≡ true) ws → Good (withCounts (withWired (withRegions s rs) ws) n)
+good-with s rs ws n g rs-few rs-fit ws-few ws-used = record {
   frames-few = g .frames-few;
   lies-long = g .lies-long;
   owners-long = g .owners-long;
   words-long = g .words-long;
   store-long = g .store-long;
-  regions-few = few;
-  regions-fit = fit;
+  regions-few = rs-few;
+  regions-fit = rs-fit;
   queue-few = g .queue-few;
   queue-low = g .queue-low;
   queue-apart = g .queue-apart;
@@ -197,48 +192,17 @@ good-withRegions s rs g few fit = record {
   owner-lies = g .owner-lies;
   dirty-used = g .dirty-used;
   clean = g .clean;
-  wired-few = g .wired-few;
-  wired-used = g .wired-used }
+  wired-few = ws-few;
+  wired-used = ws-used }
+
+pub good-withRegions : (s : State) (rs : List Region) → Good s → length rs ≤ 64 → All regionFits rs → Good (withRegions s rs)
+good-withRegions s rs g few fit = good-with s rs (s .wired) (s .counts) g few fit (g .wired-few) (g .wired-used)
 
 pub good-withWired : (s : State) (ws : List WiredPlace) → Good s → length ws ≤ 8 → All (λ w. inUse s (w .frame) ≡ true) ws → Good (withWired s ws)
-good-withWired s ws g few used = record {
-  frames-few = g .frames-few;
-  lies-long = g .lies-long;
-  owners-long = g .owners-long;
-  words-long = g .words-long;
-  store-long = g .store-long;
-  regions-few = g .regions-few;
-  regions-fit = g .regions-fit;
-  queue-few = g .queue-few;
-  queue-low = g .queue-low;
-  queue-apart = g .queue-apart;
-  lies-used = g .lies-used;
-  lies-owned = g .lies-owned;
-  owner-lies = g .owner-lies;
-  dirty-used = g .dirty-used;
-  clean = g .clean;
-  wired-few = few;
-  wired-used = used }
+good-withWired s ws g few used = good-with s (s .regions) ws (s .counts) g (g .regions-few) (g .regions-fit) few used
 
 pub good-withCounts : (s : State) (n : Counts) → Good s → Good (withCounts s n)
-good-withCounts s n g = record {
-  frames-few = g .frames-few;
-  lies-long = g .lies-long;
-  owners-long = g .owners-long;
-  words-long = g .words-long;
-  store-long = g .store-long;
-  regions-few = g .regions-few;
-  regions-fit = g .regions-fit;
-  queue-few = g .queue-few;
-  queue-low = g .queue-low;
-  queue-apart = g .queue-apart;
-  lies-used = g .lies-used;
-  lies-owned = g .lies-owned;
-  owner-lies = g .owner-lies;
-  dirty-used = g .dirty-used;
-  clean = g .clean;
-  wired-few = g .wired-few;
-  wired-used = g .wired-used }
+good-withCounts s n g = good-with s (s .regions) (s .wired) n g (g .regions-few) (g .regions-fit) (g .wired-few) (g .wired-used)
 
 pub good-wired : (s : State) (a p x f : ℕ) → Good s → lie s x ≡ Some f → length (s .wired) < 8 → Good (wiredTo s a p (Some f))
 good-wired s a p x f g e few =

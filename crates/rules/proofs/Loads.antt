@@ -1,8 +1,8 @@
 -- A page that is evicted and a page that is loaded leave what the state keeps. Assumes nothing.
-use mathlib.Core.Path.{_≡_, refl, sym, ap, subst, _∙_}
+use mathlib.Core.Path.{_≡_, refl, sym, ap, _∙_}
 use mathlib.Core.Logic.{_⊎_, inl, inr, ⊎-elim}
-use mathlib.Core.List.{List, [], _∷_, _++_}
-use mathlib.Core.Bool.{Bool, true, false, cond, not, _&&_}
+use mathlib.Core.List.{List, [], _∷_}
+use mathlib.Core.Bool.{true, false, not}
 use Prim.Native.Nat.{ℕ, _+_, _<_, _≤_}
 use native.Mathlib.Omega.{arith}
 use lib.Dec.{eqb}
@@ -10,20 +10,17 @@ use lib.ListN.{length, getD, set}
 use Rattle.std.specs.shelf.Lists.{All}
 use Rattle.std.proofs.shelf.Lists.{length-set, length-push, getD-set-same, getD-set-other, getD-past}
 use Rattle.std.proofs.shelf.Elements.{all-weaker}
-use Rattle.std.proofs.shelf.Tests.{cases-bool, cases-eq, cases-lt, eq-eqb, ne-eqb, eqb-true, eqb-false, both-ways, not-true, not-false, and-parts, and-cases, cond-both, cond-true, cond-false}
+use Rattle.std.proofs.shelf.Tests.{cases-bool, cases-eq, cases-lt, ne-eqb, eqb-false, both-ways, not-true, and-parts, cond-both}
 use Rattle.std.specs.declared.option.Option.{Option}
 use Rattle.std.specs.declared.option.Option.the-variants.{Some, None}
 use Rattle.rules.specs.declared.region.WiredPlace.{WiredPlace}
 use Rattle.rules.specs.Lists.{any, without}
 use Rattle.rules.specs.State.{State, lie, dirtyIn, isModified}
 use Rattle.rules.specs.Refusals.{free, onFrame}
-use Rattle.rules.specs.Paging.{owner, evict, load, unused}
+use Rattle.rules.specs.Paging.{owner, evict, load}
 use Rattle.rules.specs.Good.{Good, inUse, Apart, regionFits}
-use Rattle.rules.proofs.Lists.{all-false, length-without, any-push-old}
+use Rattle.rules.proofs.Lists.{never, all-false, length-without, any-push-old}
 use Rattle.rules.proofs.Queues.{has-push-same, has-push-other, apart-push, has-without-same, has-without-other, apart-without}
-
-never : {B : Type 0} → _≡_ {A = ℕ} 0 1 → B
-never e = absurd (omega arith)
 
 -- the word of an object page: that in its frame, else that of the backing store
 abbrev pub wordOf : State → ℕ → Option ℕ → ℕ

@@ -3,19 +3,15 @@ use mathlib.Core.Path.{_≡_, refl, sym, ap, _∙_}
 use mathlib.Core.Logic.{⊎-elim}
 use mathlib.Core.List.{List, [], _∷_, _++_}
 use mathlib.Core.Bool.{Bool, true, false, _||_}
-use Prim.Native.Nat.{ℕ, zero, suc, _+_, _<_, _≤_}
+use Prim.Native.Nat.{ℕ, zero, suc, _<_}
 use native.Mathlib.Omega.{arith}
 use lib.Dec.{eqb}
 use lib.ListN.{length, getD}
-use Rattle.std.proofs.shelf.Tests.{cases-bool, cases-eq, eq-eqb, ne-eqb, eqb-true, eqb-false, both-ways, or-parts, or-left, or-right}
-use Rattle.std.specs.declared.option.Option.{Option}
-use Rattle.std.specs.declared.option.Option.the-variants.{Some, None}
+use Rattle.std.proofs.shelf.Tests.{cases-bool, eq-eqb, ne-eqb, eqb-true, eqb-false, both-ways, or-parts, or-left, or-right}
+use Rattle.std.specs.declared.option.Option.the-variants.{Some}
 use Rattle.rules.specs.Lists.{first, any, without}
 use Rattle.rules.specs.Good.{Apart}
-use Rattle.rules.proofs.Lists.{any-push, any-push-other}
-
-never : {B : Type 0} → _≡_ {A = ℕ} 0 1 → B
-never e = absurd (omega arith)
+use Rattle.rules.proofs.Lists.{never, any-push, any-push-other}
 
 -- where a number stands
 

@@ -1,15 +1,14 @@
 -- The law holds of every history of a memory. Assumes nothing.
 use mathlib.Core.Path.{_≡_, refl, sym, ap, subst, _∙_}
-use mathlib.Core.Logic.{_⊎_, inl, inr, ⊎-elim}
+use mathlib.Core.Logic.{inl, inr, ⊎-elim}
 use mathlib.Core.List.{List, [], _∷_}
-use mathlib.Core.Bool.{Bool, true, false, cond, _&&_}
-use Prim.Native.Nat.{ℕ, _+_, _*_, _/_, _<_, _≤_}
+use mathlib.Core.Bool.{Bool, true, false, cond}
+use Prim.Native.Nat.{ℕ, _+_, _/_, _<_, _≤_}
 use native.Mathlib.Omega.{arith}
 use lib.Dec.{eqb}
 use lib.ListN.{getD}
 use Rattle.std.proofs.shelf.Counted.{getD-counting}
 use Rattle.std.proofs.shelf.Tests.{cases-bool, both-ways, eqb-true, eq-eqb, and-parts, and-from}
-use Rattle.std.specs.Iters.{counting}
 use Rattle.std.specs.declared.option.Option.{Option}
 use Rattle.std.specs.declared.option.Option.the-variants.{Some, None}
 use Rattle.std.specs.declared.result.Result.the-variants.{Ok, Err}
@@ -19,27 +18,22 @@ use Rattle.calls.specs.declared.Call.the-variants.{Map, Unmap, Protect, Read, W
 use Rattle.rules.specs.declared.answer.Kind.{Kind}
 use Rattle.rules.specs.declared.answer.Kind.the-variants.{Hit, Soft, Hard}
 use Rattle.rules.specs.declared.answer.Reading.{Reading}
-use Rattle.rules.specs.declared.answer.Answer.{Answer}
-use Rattle.rules.specs.declared.answer.Answer.the-variants.{Done, Read as ReadAnswer, Wrote, Wired, Synced}
+use Rattle.rules.specs.declared.answer.Answer.the-variants.{Read as ReadAnswer}
 use Rattle.rules.specs.declared.counts.Counts.{Counts}
-use Rattle.rules.specs.declared.region.Region.{Region}
 use Rattle.rules.specs.declared.region.WiredPlace.{WiredPlace}
-use Rattle.rules.specs.Lists.{any, without}
+use Rattle.rules.specs.Lists.{any}
 use Rattle.rules.specs.State.{State, lie, isModified, startingWords, fresh}
 use Rattle.rules.specs.Refusals.{isPlace, callRefusal, refusal}
-use Rattle.rules.specs.Paging.{resident, wordIn, storedWord}
+use Rattle.rules.specs.Paging.{resident, wordIn}
 use Rattle.rules.specs.Rules.{Reply, kindOf, pageAt, readingOf, answer, regionsAfter, moved, withCounts, one, isKind, ofKind, evictedIn, isLimit, added, counted, replyBy, reply, movedBy, after}
 use Rattle.rules.specs.Good.{Good}
-use Rattle.rules.specs.History.{Moment, shown, MayHit, May, Passed, begun, called}
-use Rattle.rules.specs.Laws.{accepted, Always, regionsOf, StandsFor, Writes, LastWord, never as never-written, latest, earlier, isEvicted, Evicts, Syncs, Unsaved, written, still, WiredSince, wires, stays, ReadsLast, ReadsSomething, SyncStores, ModifiedIsUnsaved, isAccess, accesses, Sums, isHit, WiredHits, Lawful}
-use Rattle.rules.proofs.Lists.{any-push, any-push-old, any-without}
+use Rattle.rules.specs.History.{Moment, shown, May, Passed, begun, called}
+use Rattle.rules.specs.Laws.{accepted, Always, regionsOf, StandsFor, Writes, LastWord, never as never-written, latest, earlier, Unsaved, written, still, WiredSince, wires, stays, ReadsLast, ReadsSomething, SyncStores, isAccess, accesses, isHit, WiredHits, Lawful}
+use Rattle.rules.proofs.Lists.{never, any-push, any-push-old, any-without}
 use Rattle.rules.proofs.Loads.{content, wordOf}
-use Rattle.rules.proofs.GoodKept.{Brought, no-lie, good-fresh, good-withCounts, stored-at, stored-content}
+use Rattle.rules.proofs.GoodKept.{no-lie, good-fresh, good-withCounts, stored-at, stored-content}
 use Rattle.rules.proofs.Accepted.{Reaches, not-limited, read-passed, write-passed, wire-passed, reached, good-moved}
 use Rattle.rules.proofs.Words.{StandsIn, stands-at, reaches-stands, Written, Word, put, left, Mark, marks, cleared, kept, Moves, content-same, moves-like, moves}
-
-never : {B : Type 0} → _≡_ {A = ℕ} 0 1 → B
-never e = absurd (omega arith)
 
 -- the regions and wired places after an accepted call
 

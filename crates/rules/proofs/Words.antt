@@ -2,13 +2,13 @@
 use mathlib.Core.Path.{_≡_, refl, sym, ap, _∙_}
 use mathlib.Core.Logic.{_⊎_, inl, inr, ⊎-elim}
 use mathlib.Core.List.{List}
-use mathlib.Core.Bool.{Bool, true, false, not, _&&_, _||_}
+use mathlib.Core.Bool.{Bool, true, false, not}
 use Prim.Native.Nat.{ℕ, _+_, _*_, _/_, _<_, _≤_}
 use native.Mathlib.Omega.{arith}
 use lib.Dec.{eqb}
 use lib.ListN.{getD}
 use Rattle.std.proofs.shelf.Lists.{getD-set-same, getD-set-other, getD-past}
-use Rattle.std.proofs.shelf.Tests.{cases-bool, cases-eq, cases-lt, eq-eqb, ne-eqb, or-right, and-right, not-from-true}
+use Rattle.std.proofs.shelf.Tests.{cases-bool, cases-eq, cases-lt, both-ways, eq-eqb, ne-eqb, or-right, and-right, not-from-true}
 use Rattle.std.specs.declared.option.Option.{Option}
 use Rattle.std.specs.declared.option.Option.the-variants.{Some, None}
 use Rattle.std.specs.declared.result.Result.the-variants.{Ok}
@@ -21,14 +21,12 @@ use Rattle.rules.specs.State.{State, lie, dirtyIn, isModified, pageIn}
 use Rattle.rules.specs.Refusals.{cover, callRefusal}
 use Rattle.rules.specs.Paging.{owner, resident, evictedBy, writtenTo, storedWords, synced}
 use Rattle.rules.specs.Rules.{pageAt, objectPage, answer, wiredTo, moved, evictedIn}
-use Rattle.rules.specs.Good.{Good, inUse}
+use Rattle.rules.specs.Good.{Good}
 use Rattle.rules.specs.Laws.{isEvicted}
-use Rattle.rules.proofs.Loads.{content, wordOf, lie-low, used-low}
+use Rattle.rules.proofs.Lists.{never}
+use Rattle.rules.proofs.Loads.{content, wordOf, used-low}
 use Rattle.rules.proofs.GoodKept.{Brought, stored-at, stored-past, stored-same}
 use Rattle.rules.proofs.Accepted.{Reaches, reached, read-passed, write-passed, wire-passed}
-
-never : {B : Type 0} → _≡_ {A = ℕ} 0 1 → B
-never e = absurd (omega arith)
 
 -- a place stands for object page x in the state's regions
 abbrev pub StandsIn : List Region → ℕ → ℕ → ℕ → Type 0
@@ -70,24 +68,44 @@ word-of-same s t x (Some f) words store = ap (λ l. getD l f 0) words
 pub content-same : (s t : State) (x : ℕ) → t .lies ≡ s .lies → t .words ≡ s .words → t .store ≡ s .store → content t x ≡ content s x
 content-same s t x lies words store = ap (λ l. wordOf t x (getD l x None)) lies ∙ word-of-same s t x (lie s x) words store
 
+modified-same : (s t : State) (x : ℕ) → t .lies ≡ s .lies → t .dirty ≡ s .dirty → isModified t x ≡ isModified s x
+modified-same s t x lies dirty = ap (λ l. dirtyIn (t .dirty) (getD l x None)) lies ∙ ap (λ d. dirtyIn d (lie s x)) dirty
+
+-- a call that is no write and no sync
+abbrev quiet : Call → Bool
+quiet (Map a p count object offset q) = true
+quiet (Unmap a p) = true
+quiet (Protect a p q) = true
+quiet (Read a p) = true
+quiet (Write a p w) = false
+quiet (Wire a p) = true
+quiet (Unwire a p) = true
+quiet (Sync o) = false
+
+unwritten : (s : State) (c : Call) → quiet c ≡ true → (x w : ℕ) → Written s c x w → ⊥
+unwritten s c q x w k = both-ways (quiet c) (ap quiet (k .asked)) q
+
+unsynced : (c : Call) → quiet c ≡ true → (o : ℕ) → c ≡ Sync o → ⊥
+unsynced c q o e = both-ways (quiet c) (ap quiet e) q
+
 evicted-cases : (x : ℕ) (out : Evicted) → isEvicted x out ⊎ (isEvicted x out → ⊥)
 evicted-cases x Nothing = inr (λ e. e)
 evicted-cases x (Page o i stored) = cases-eq (256 * o + i) x
 
--- a page is brought in by a call that is no write and no sync
-moves-brought : (s t : State) (c : Call) (y : ℕ) (out : Evicted) → ((x w : ℕ) → Written s c x w → ⊥) → ((o : ℕ) → c ≡ Sync o → ⊥) → Brought s t y out → Moves s t c out
-moves-brought s t c y out unwritten unsynced b = record {
-  word = λ x. left (unwritten x) (b .words x);
+-- a page is brought in by such a call
+moves-brought : (s t : State) (c : Call) (y : ℕ) (out : Evicted) → quiet c ≡ true → Brought s t y out → Moves s t c out
+moves-brought s t c y out q b = record {
+  word = λ x. left (unwritten s c q x) (b .words x);
   mark = λ x. ⊎-elim
-    (λ (e : isEvicted x out). cleared (unwritten x) (inl e) (b .goes x e))
-    (λ (n : isEvicted x out → ⊥). kept (unwritten x) n (unsynced (x / 256)) (b .stays x n))
+    (λ (e : isEvicted x out). cleared (unwritten s c q x) (inl e) (b .goes x e))
+    (λ (n : isEvicted x out → ⊥). kept (unwritten s c q x) n (unsynced c q (x / 256)) (b .stays x n))
     (evicted-cases x out) }
 
--- nothing is moved but regions or wired places
-moves-nothing : (s t : State) (c : Call) → ((x w : ℕ) → Written s c x w → ⊥) → ((o : ℕ) → c ≡ Sync o → ⊥) → t .lies ≡ s .lies → t .words ≡ s .words → t .store ≡ s .store → t .dirty ≡ s .dirty → Moves s t c Nothing
-moves-nothing s t c unwritten unsynced lies words store dirty = record {
-  word = λ x. left (unwritten x) (content-same s t x lies words store);
-  mark = λ x. kept (unwritten x) (λ e. e) (unsynced (x / 256)) (ap (λ l. dirtyIn (t .dirty) (getD l x None)) lies ∙ ap (λ d. dirtyIn d (lie s x)) dirty) }
+-- such a call moves nothing but regions or wired places
+moves-nothing : (s t : State) (c : Call) → quiet c ≡ true → t .lies ≡ s .lies → t .words ≡ s .words → t .store ≡ s .store → t .dirty ≡ s .dirty → Moves s t c Nothing
+moves-nothing s t c q lies words store dirty = record {
+  word = λ x. left (unwritten s c q x) (content-same s t x lies words store);
+  mark = λ x. kept (unwritten s c q x) (λ e. e) (unsynced c q (x / 256)) (modified-same s t x lies dirty) }
 
 -- a word is written to the frame of page y
 module _ (u : State) (y f w : ℕ) (g : Good u) (lies : lie u y ≡ Some f) where
@@ -134,8 +152,8 @@ moves-written s u a p w f out r b lies = record { word = word; mark = mark }
         let spaces : a ≡ k .space = cc in
         let pages : p ≡ k .page = cc in
         n (sym (ap (λ i. pageAt s i p) spaces ∙ ap (pageAt s (k .space)) pages ∙ stands-at s (k .space) (k .page) x (k .to)))
-    unsynced : (o : ℕ) → Write a p w ≡ Sync o → ⊥
-    unsynced o e = never (cc)
+    no-sync : (o : ℕ) → Write a p w ≡ Sync o → ⊥
+    no-sync o e = never (cc)
     word : (x : ℕ) → Word s t (Write a p w) x
     word x = ⊎-elim
         (λ (same : x ≡ y). put w (here x same) (ap (content t) same ∙ content-put u y f w (b .good) lies))
@@ -146,7 +164,7 @@ moves-written s u a p w f out r b lies = record { word = word; mark = mark }
         (λ (same : x ≡ y). marks w (here x same) (ap (isModified t) same ∙ modified-set u y f w (b .good) lies))
         (λ (n : x ≡ y → ⊥). ⊎-elim
           (λ (e : isEvicted x out). cleared (only x n) (inl e) (modified-left u y f w (b .good) lies x n ∙ b .goes x e))
-          (λ (q : isEvicted x out → ⊥). kept (only x n) q (unsynced (x / 256)) (modified-left u y f w (b .good) lies x n ∙ b .stays x q))
+          (λ (q : isEvicted x out → ⊥). kept (only x n) q (no-sync (x / 256)) (modified-left u y f w (b .good) lies x n ∙ b .stays x q))
           (evicted-cases x out))
         (cases-eq x y)
 
@@ -187,14 +205,14 @@ modified-unsynced s o x g n = by (lie s x) refl
 
 moves-synced : (s : State) (o : ℕ) → Good s → Moves s (synced s o) (Sync o) Nothing
 moves-synced s o g = record {
-  word = λ x. left (unwritten x) (content-synced s o x g);
+  word = λ x. left (no-write x) (content-synced s o x g);
   mark = λ x. ⊎-elim
-    (λ (q : x / 256 ≡ o). cleared (unwritten x) (inr (ap Sync (sym q))) (modified-synced s o x g q))
-    (λ (n : x / 256 ≡ o → ⊥). kept (unwritten x) (λ e. e) (λ e. n (sym (objects (x / 256) e))) (modified-unsynced s o x g n))
+    (λ (q : x / 256 ≡ o). cleared (no-write x) (inr (ap Sync (sym q))) (modified-synced s o x g q))
+    (λ (n : x / 256 ≡ o → ⊥). kept (no-write x) (λ e. e) (λ e. n (sym (objects (x / 256) e))) (modified-unsynced s o x g n))
     (cases-eq (x / 256) o) }
   where
-    unwritten : (x w : ℕ) → Written s (Sync o) x w → ⊥
-    unwritten x w k = let asked = k .asked in never (cc)
+    no-write : (x w : ℕ) → Written s (Sync o) x w → ⊥
+    no-write x w k = let asked = k .asked in never (cc)
     objects : (i : ℕ) → Sync o ≡ Sync i → o ≡ i
     objects i e = cc
 
@@ -205,7 +223,7 @@ moves-like s u t c out m lies words store dirty = record { word = λ x. word x (
     same-word : (x : ℕ) → content t x ≡ content u x
     same-word x = content-same u t x lies words store
     same-mark : (x : ℕ) → isModified t x ≡ isModified u x
-    same-mark x = ap (λ l. dirtyIn (t .dirty) (getD l x None)) lies ∙ ap (λ d. dirtyIn d (lie u x)) dirty
+    same-mark x = modified-same u t x lies dirty
     word : (x : ℕ) → Word s u c x → Word s t c x
     word x (put w k e) = put w k (same-word x ∙ e)
     word x (left n e) = left n (same-word x ∙ e)
@@ -216,12 +234,12 @@ moves-like s u t c out m lies words store dirty = record { word = λ x. word x (
 
 -- every accepted call
 pub moves : (s : State) (c : Call) (hit : Bool) → Good s → callRefusal s c ≡ None → Moves s (moved s c) c (evictedIn (Ok (answer s c hit)))
-moves s (Map a p count object offset q) hit g e = moves-nothing s (moved s (Map a p count object offset q)) (Map a p count object offset q) (λ x w k. (let asked = k .asked in never (cc))) (λ o k. never (cc)) refl refl refl refl
-moves s (Unmap a p) hit g e = moves-nothing s (moved s (Unmap a p)) (Unmap a p) (λ x w k. (let asked = k .asked in never (cc))) (λ o k. never (cc)) refl refl refl refl
-moves s (Protect a p q) hit g e = moves-nothing s (moved s (Protect a p q)) (Protect a p q) (λ x w k. (let asked = k .asked in never (cc))) (λ o k. never (cc)) refl refl refl refl
+moves s (Map a p count object offset q) hit g e = moves-nothing s (moved s (Map a p count object offset q)) (Map a p count object offset q) refl refl refl refl refl
+moves s (Unmap a p) hit g e = moves-nothing s (moved s (Unmap a p)) (Unmap a p) refl refl refl refl refl
+moves s (Protect a p q) hit g e = moves-nothing s (moved s (Protect a p q)) (Protect a p q) refl refl refl refl refl
 moves s (Read a p) hit g e =
     let y = pageAt s a p in
-    moves-brought s (resident s y) (Read a p) y (evictedBy s (lie s y)) (λ x w k. (let asked = k .asked in never (cc))) (λ o k. never (cc)) (reached s a p g (read-passed s a p g e))
+    moves-brought s (resident s y) (Read a p) y (evictedBy s (lie s y)) refl (reached s a p g (read-passed s a p g e))
 moves s (Write a p w) hit g e =
     let y = pageAt s a p in
     let r = write-passed s a p w g e in
@@ -232,7 +250,7 @@ moves s (Wire a p) hit g e =
     let u = resident s y in
     let b = reached s a p g (wire-passed s a p g e .0) in
     rw (b .lies) (moves-like s u (wiredTo u a p (Some (b .frame))) (Wire a p) (evictedBy s (lie s y))
-        (moves-brought s u (Wire a p) y (evictedBy s (lie s y)) (λ x w k. (let asked = k .asked in never (cc))) (λ o k. never (cc)) b)
+        (moves-brought s u (Wire a p) y (evictedBy s (lie s y)) refl b)
         refl refl refl refl)
-moves s (Unwire a p) hit g e = moves-nothing s (moved s (Unwire a p)) (Unwire a p) (λ x w k. (let asked = k .asked in never (cc))) (λ o k. never (cc)) refl refl refl refl
+moves s (Unwire a p) hit g e = moves-nothing s (moved s (Unwire a p)) (Unwire a p) refl refl refl refl refl
 moves s (Sync o) hit g e = moves-synced s o g
