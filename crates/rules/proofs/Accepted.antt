@@ -49,7 +49,8 @@ fits r h =
       count = ltb-true 0 (r .count) (d .0);
       pages = leb-true (r .first + r .count) 262144 (e .0);
       space = ltb-true (r .space) 4 (p .0);
-      first = ltb-true (r .first) 262144 (p .1) }
+      first = ltb-true (r .first) 262144 (p .1);
+    }
 
 -- a place that a region covers stands for a page of the region's object
 pub record Covered (r : Region) (a p : ℕ) : Type 0 where
@@ -75,7 +76,8 @@ covered s a p r g e =
       from = from;
       upto = upto;
       page-low = omega (arith, n .object, n .offset);
-      page-object = omega (arith, n .offset) }
+      page-object = omega (arith, n .offset);
+    }
 
 -- an accepted read, write or wire is to an object page that is resident or finds a frame
 pub record Reaches (s : State) (a p : ℕ) : Type 0 where
@@ -147,20 +149,20 @@ good-mapped s a p count object offset q g e =
     let k = refuse-none (any (overlaps a p count) (s .regions)) Overlap (refuse (leb 64 (length (s .regions))) RegionsFull None) (h .1) in
     let few = leb-false 64 (length (s .regions)) (refuse-none (leb 64 (length (s .regions))) RegionsFull None (k .1) .0) in
     good-withRegions s (mapped (s .regions) a p count object offset q) g
-        (omega (arith, length-push (s .regions) new))
-        (all-push regionFits (s .regions) new (g .regions-fit) (not-false (fitsMap a p count object offset q) (h .0)))
+    (omega (arith, length-push (s .regions) new))
+    (all-push regionFits (s .regions) new (g .regions-fit) (not-false (fitsMap a p count object offset q) (h .0)))
 
 pub good-unmapped : (s : State) (a p : ℕ) → Good s → Good (moved s (Unmap a p))
 good-unmapped s a p g =
     good-withRegions s (without (begins a p) (s .regions)) g
-        (let few = g .regions-few in omega (arith, length-without-le (begins a p) (s .regions)))
-        (all-without (begins a p) regionFits (s .regions) (g .regions-fit))
+    (let few = g .regions-few in omega (arith, length-without-le (begins a p) (s .regions)))
+    (all-without (begins a p) regionFits (s .regions) (g .regions-fit))
 
 pub good-protected : (s : State) (a p q : ℕ) → Good s → callRefusal s (Protect a p q) ≡ None → Good (moved s (Protect a p q))
 good-protected s a p q g e =
     good-withRegions s (changed (begins a p) (withProtection q) (s .regions)) g
-        (let few = g .regions-few in omega (arith, length-changed (begins a p) (withProtection q) (s .regions)))
-        (all-changed (begins a p) (withProtection q) regionFits keep (s .regions) (g .regions-fit))
+    (let few = g .regions-few in omega (arith, length-changed (begins a p) (withProtection q) (s .regions)))
+    (all-changed (begins a p) (withProtection q) regionFits keep (s .regions) (g .regions-fit))
   where
     passed : (fitsPlace a p && fitsProtection q) ≡ true
     passed = not-false (fitsPlace a p && fitsProtection q) (refuse-none (not (fitsPlace a p && fitsProtection q)) Range (regionRefusal s (first (begins a p) (s .regions))) e .0)

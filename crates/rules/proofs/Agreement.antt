@@ -128,7 +128,7 @@ answer-same s n (Protect a p q) hit = refl
 answer-same s n (Read a p) hit =
     let x = pageAt s a p in
     let word : wordIn (resident (withCounts s n) x) (lie (resident (withCounts s n) x) x) ≡ wordIn (resident s x) (lie (resident s x) x) =
-        ap (λ t. wordIn t (lie t x)) (resident-same s n x) ∙ word-same (resident s x) n (lie (resident s x) x) in
+    ap (λ t. wordIn t (lie t x)) (resident-same s n x) ∙ word-same (resident s x) n (lie (resident s x) x) in
     ap (λ e. ReadAnswer (record { report = record { kind = kindOf hit (lie s x); evicted = e }; word = wordIn (resident (withCounts s n) x) (lie (resident (withCounts s n) x) x) })) (evicted-same s n (lie s x))
     ∙ ap (λ w. ReadAnswer (record { report = record { kind = kindOf hit (lie s x); evicted = evictedBy s (lie s x) }; word = w })) word
 answer-same s n (Write a p w) hit =
@@ -167,11 +167,11 @@ module _ (s t : State) (w : Twins s t) where
   answers-agree (Read a p) hit also h k =
       let x = pageAt s a p in
       ap (λ m. Ok (ReadAnswer (record { report = record { kind = m; evicted = evictedBy s (lie s x) }; word = wordIn (resident s x) (lie (resident s x) x) })))
-          (kinds-agree (lie s x) hit also (h .lies) (λ e. sym (twin-lie a p) ∙ k .lies e))
+      (kinds-agree (lie s x) hit also (h .lies) (λ e. sym (twin-lie a p) ∙ k .lies e))
   answers-agree (Write a p v) hit also h k =
       let x = pageAt s a p in
       ap (λ m. Ok (Wrote (record { kind = m; evicted = evictedBy s (lie s x) })))
-          (kinds-agree (lie s x) hit also (h .lies) (λ e. sym (twin-lie a p) ∙ k .lies e))
+      (kinds-agree (lie s x) hit also (h .lies) (λ e. sym (twin-lie a p) ∙ k .lies e))
   answers-agree (Wire a p) hit also h k = refl
   answers-agree (Unwire a p) hit also h k = refl
   answers-agree (Sync o) hit also h k = refl
@@ -252,7 +252,8 @@ counts-agree n m r q w e = by (isLimit r) (isLimit q) (ap (λ x. x .limit) same)
       hard = omega (arith, w .hard, ap (λ x. x .hard) same);
       loads = omega (arith, w .loads, ap (λ x. x .loads) same);
       evicted = omega (arith, w .evicted, ap (λ x. x .evicted) same);
-      stored = omega (arith, w .stored, ap (λ x. x .stored) same) }
+      stored = omega (arith, w .stored, ap (λ x. x .stored) same);
+    }
 
     by : (a b : Bool) → a ≡ b → CountsAgree (cond a n (added n r)) (cond b m (added m q))
     by true true e = w
@@ -269,7 +270,8 @@ pub record Step (s t : State) (c d : Call) (hit also : Bool) : Type 0 where
 step : (s t : State) → Twins s t → (c : Call) (hit also : Bool) → May s c hit → May t c also → Step s t c c hit also
 step s t w c hit also h k = record {
   moments = record { replies = replies; counts = counts; store = sym (ap (λ u. u .store) same); modified = sym (ap isModified same) };
-  twins = record { same = same; counts = counts } }
+  twins = record { same = same; counts = counts };
+}
   where
     replies : blur (reply s c hit) ≡ blur (reply t c also)
     replies = twin-reply s t w c hit also h k (refusal s c) ∙ ap (λ o. blur (replyBy t c also o)) (sym (twin-refusal s t w c))

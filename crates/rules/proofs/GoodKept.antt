@@ -65,7 +65,8 @@ module _ (s : State) (x : ℕ) (g : Good s) (low : x < 2048) where
     words = λ y. refl;
     stays = λ y n. refl;
     goes = λ y e. absurd e;
-    other = λ e. e }
+    other = λ e. e;
+  }
 
   brings-unused : lie s x ≡ None → length (s .queue) < s .frames → Brought s (load s x (length (s .queue))) x Nothing
   brings-unused absent room =
@@ -82,7 +83,8 @@ module _ (s : State) (x : ℕ) (g : Good s) (low : x < 2048) where
         words = content-load s x f r low absent;
         stays = λ y n. modified-load s x f r low absent y;
         goes = λ y e. absurd e;
-        other = λ e. e }
+        other = λ e. e;
+      }
 
   brings-victim : (f : ℕ) → lie s x ≡ None → victim s ≡ Some f → Brought s (load (evict s f) x f) x (evictedPage s f)
   brings-victim f absent v =
@@ -97,18 +99,24 @@ module _ (s : State) (x : ℕ) (g : Good s) (low : x < 2048) where
         words = λ y. content-load t x f r low gone y ∙ content-evict s f g used y;
         stays = λ y n. modified-load t x f r low gone y ∙ modified-evict s f g used y (λ e. n (is-owner ∙ sym e));
         goes = λ y e. modified-load t x f r low gone y ∙ ap (isModified t) (sym e ∙ is-owner) ∙ modified-evicted s f g used;
-        other = λ e. (let here : lie s (owner s f) ≡ lie s x = ap (lie s) (sym is-owner ∙ e) in let there = g .owner-lies f used in never (cc)) }
+        other = λ e. (let here : lie s (owner s f) ≡ lie s x = ap (lie s) (sym is-owner ∙ e) in let there = g .owner-lies f used in never (cc));
+      }
     where
       t : State
       t = evict s f
+
       used : inUse s f ≡ true
       used = first-has (free (s .wired)) (s .queue) f v
+
       r : Ready t f
       r = ready-evicted s f g used (first-passes (free (s .wired)) (s .queue) f v)
+
       is-owner : 256 * (owner s f / 256) + owner s f % 256 ≡ owner s f
       is-owner = omega arith
+
       n : x ≡ owner s f → ⊥
       n e = let here : lie s x ≡ lie s (owner s f) = ap (lie s) e in let there = g .owner-lies f used in never (cc)
+
       gone : lie t x ≡ None
       gone = lie-evict s f g used x n ∙ absent
 
@@ -171,7 +179,8 @@ good-fresh n few = record {
   dirty-used = λ f e. never (cc);
   clean = λ x f e d. (let z = no-lie n x in never (cc));
   wired-few = omega arith;
-  wired-used = tt }
+  wired-used = tt;
+}
 
 -- other regions, wired places or counts
 
@@ -193,7 +202,8 @@ good-with s rs ws n g rs-few rs-fit ws-few ws-used = record {
   dirty-used = g .dirty-used;
   clean = g .clean;
   wired-few = ws-few;
-  wired-used = ws-used }
+  wired-used = ws-used;
+}
 
 pub good-withRegions : (s : State) (rs : List Region) → Good s → length rs ≤ 64 → All regionFits rs → Good (withRegions s rs)
 good-withRegions s rs g few fit = good-with s rs (s .wired) (s .counts) g few fit (g .wired-few) (g .wired-used)
@@ -207,14 +217,14 @@ good-withCounts s n g = good-with s (s .regions) (s .wired) n g (g .regions-few)
 pub good-wired : (s : State) (a p x f : ℕ) → Good s → lie s x ≡ Some f → length (s .wired) < 8 → Good (wiredTo s a p (Some f))
 good-wired s a p x f g e few =
     good-withWired s (s .wired ++ (record { space = a; page = p; frame = f } ∷ [])) g
-        (omega (arith, length-push (s .wired) (record { space = a; page = p; frame = f })))
-        (all-push (λ w. inUse s (w .frame) ≡ true) (s .wired) (record { space = a; page = p; frame = f }) (g .wired-used) (g .lies-used x f e))
+    (omega (arith, length-push (s .wired) (record { space = a; page = p; frame = f })))
+    (all-push (λ w. inUse s (w .frame) ≡ true) (s .wired) (record { space = a; page = p; frame = f }) (g .wired-used) (g .lies-used x f e))
 
 pub good-unwired : (s : State) (a p : ℕ) → Good s → Good (withWired s (without (isPlace a p) (s .wired)))
 good-unwired s a p g =
     good-withWired s (without (isPlace a p) (s .wired)) g
-        (let h = g .wired-few in omega (arith, length-without-le (isPlace a p) (s .wired)))
-        (all-without (isPlace a p) (λ w. inUse s (w .frame) ≡ true) (s .wired) (g .wired-used))
+    (let h = g .wired-few in omega (arith, length-without-le (isPlace a p) (s .wired)))
+    (all-without (isPlace a p) (λ w. inUse s (w .frame) ≡ true) (s .wired) (g .wired-used))
 
 -- a word is written to the frame of a resident page
 pub good-written : (s : State) (x f w : ℕ) → Good s → lie s x ≡ Some f → Good (writtenTo s w (Some f))
@@ -233,14 +243,15 @@ good-written s x f w g lies = record {
   lies-owned = g .lies-owned;
   owner-lies = g .owner-lies;
   dirty-used = λ h d. ⊎-elim
-    (λ (e : s .dirty h ≡ true). g .dirty-used h e)
-    (λ (e : eqb h f ≡ true). ap (inUse s) (eqb-true h f e) ∙ g .lies-used x f lies)
-    (or-cases (s .dirty h) (eqb h f) d);
+      (λ (e : s .dirty h ≡ true). g .dirty-used h e)
+      (λ (e : eqb h f ≡ true). ap (inUse s) (eqb-true h f e) ∙ g .lies-used x f lies)
+      (or-cases (s .dirty h) (eqb h f) d);
   clean = λ y h e d. (
-    let parts = or-parts (s .dirty h) (eqb h f) d in
-    getD-set-other (s .words) f h w 0 (eqb-false h f (parts .1)) ∙ g .clean y h e (parts .0));
+      let parts = or-parts (s .dirty h) (eqb h f) d in
+      getD-set-other (s .words) f h w 0 (eqb-false h f (parts .1)) ∙ g .clean y h e (parts .0));
   wired-few = g .wired-few;
-  wired-used = g .wired-used }
+  wired-used = g .wired-used;
+}
 
 -- an object is synced
 
@@ -293,14 +304,15 @@ good-synced s o g = record {
   dirty-used = λ f d. g .dirty-used f (and-parts (s .dirty f) (not (eqb (owner s f / 256) o)) d .0);
   clean = clean;
   wired-few = g .wired-few;
-  wired-used = g .wired-used }
+  wired-used = g .wired-used;
+}
   where
     clean : (x f : ℕ) → lie s x ≡ Some f → (s .dirty f && not (eqb (owner s f / 256) o)) ≡ false → getD (s .words) f 0 ≡ getD (storedWords s o) x 0
     clean x f e d = ⊎-elim
         (λ (q : s .dirty f ≡ false).
-          let m : isModified s x ≡ false = ap (dirtyIn (s .dirty)) e ∙ q in
-          g .clean x f e q ∙ sym (stored-same s o x m) ∙ sym (stored-at s o x (lie-low s x f g e)))
+        let m : isModified s x ≡ false = ap (dirtyIn (s .dirty)) e ∙ q in
+        g .clean x f e q ∙ sym (stored-same s o x m) ∙ sym (stored-at s o x (lie-low s x f g e)))
         (λ (q : not (eqb (owner s f / 256) o) ≡ false).
-          let object : x / 256 ≡ o = ap (λ y. y / 256) (sym (g .lies-owned x f e)) ∙ eqb-true (owner s f / 256) o (not-false (eqb (owner s f / 256) o) q) in
-          sym (ap (wordOf s x) e) ∙ sym (stored-content s o x g object) ∙ sym (stored-at s o x (lie-low s x f g e)))
+        let object : x / 256 ≡ o = ap (λ y. y / 256) (sym (g .lies-owned x f e)) ∙ eqb-true (owner s f / 256) o (not-false (eqb (owner s f / 256) o) q) in
+        sym (ap (wordOf s x) e) ∙ sym (stored-content s o x g object) ∙ sym (stored-at s o x (lie-low s x f g e)))
         (and-cases (s .dirty f) (not (eqb (owner s f / 256) o)) d)

@@ -214,7 +214,8 @@ placed-later test x xs j t p = record {
   passes = p .passes;
   found = λ d. simp t (p .found d);
   removed = simp (t, add-one) (ap (_∷_ x) (p .removed ∙ simp add-one));
-  put = λ f d. simp t (ap (_∷_ x) (p .put f d)) }
+  put = λ f d. simp t (ap (_∷_ x) (p .put f d));
+}
 
 pub placed : {A : Type 0} (test : A → Bool) (xs : List A) (i : ℕ) → place test xs ≡ Some i → Placed test xs i
 unfolding place first without changed

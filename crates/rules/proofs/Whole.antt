@@ -55,11 +55,11 @@ place-true a p w e =
 other-place : (a p b q : ℕ) → (Unwire b q ≡ Unwire a p → ⊥) → (w : WiredPlace) → isPlace b q w ≡ true → isPlace a p w ≡ false
 other-place a p b q n w e = ⊎-elim
     (λ (t : isPlace a p w ≡ true).
-      let here = place-true a p w t in
-      let there = place-true b q w e in
-      let spaces : b ≡ a = sym (there .0) ∙ here .0 in
-      let pages : q ≡ p = sym (there .1) ∙ here .1 in
-      absurd (n (cc)))
+    let here = place-true a p w t in
+    let there = place-true b q w e in
+    let spaces : b ≡ a = sym (there .0) ∙ here .0 in
+    let pages : q ≡ p = sym (there .1) ∙ here .1 in
+    absurd (n (cc)))
     (λ (t : isPlace a p w ≡ false). t)
     (cases-bool (isPlace a p w))
 
@@ -120,7 +120,8 @@ fresh-follows n few = record {
   unsaved = λ x e. (let z = no-lie n x in let m : isModified (fresh n) x ≡ false = rw z refl in never (cc));
   modified = λ x u. elim u [ ];
   sums = refl;
-  wired = λ a p k. elim k [ ] }
+  wired = λ a p k. elim k [ ];
+}
   where
     zeroth : (x : ℕ) → 0 + x ≡ x
     zeroth x = omega arith
@@ -159,7 +160,8 @@ module _ (h : List Moment) (s : State) (w : Follows h s) (c : Call) (e : MemoryR
     unsaved = λ x m. still (λ k. k) (λ k. (let z = k .1 in never (cc))) (w .unsaved x m);
     modified = refused-modified;
     sums = refused-sums (isLimit (Err e));
-    wired = refused-wired }
+    wired = refused-wired;
+  }
 
 -- an accepted call
 
@@ -209,7 +211,8 @@ module _ (h : List Moment) (s : State) (w : Follows h s) (c : Call) (hit : Bool)
     unsaved = λ x m. next-unsaved x m (next-moves .mark x);
     modified = λ x u. next-modified x (next-moves .mark x) u;
     sums = omega (arith, w .sums, answer-sum s c hit);
-    wired = next-wired }
+    wired = next-wired;
+  }
 
 -- one call, refused or accepted
 follows-after : (h : List Moment) (s : State) → Follows h s → (c : Call) (hit : Bool) → Follows (record { call = c; reply = reply s c hit; after = shown (after s c hit) } ∷ h) (after s c hit)
@@ -297,7 +300,8 @@ module _ (h : List Moment) (s : State) (w : Follows h s) (c : Call) (hit : Bool)
   call-wired : WiredHits latest-moment h
   call-wired = record {
     reads = λ a p k e. subst (λ d. May s d hit → accepted (reply s d hit) ≡ true → isHit (reply s d hit)) (sym e) (reads-hit h s w hit a p k) may;
-    writes = λ a p v k e. subst (λ d. May s d hit → accepted (reply s d hit) ≡ true → isHit (reply s d hit)) (sym e) (writes-hit h s w hit a p v k) may }
+    writes = λ a p v k e. subst (λ d. May s d hit → accepted (reply s d hit) ≡ true → isHit (reply s d hit)) (sym e) (writes-hit h s w hit a p v k) may;
+  }
 
   lawful-more : Lawful h → Lawful (latest-moment ∷ h)
   unfolding Always
@@ -309,7 +313,8 @@ module _ (h : List Moment) (s : State) (w : Follows h s) (c : Call) (hit : Bool)
         syncs = (call-syncs, l .syncs);
         modified = (record { unsaved = now .unsaved; modified = now .modified }, l .modified);
         sums = (now .sums, l .sums);
-        wired = (call-wired, l .wired) }
+        wired = (call-wired, l .wired);
+      }
 
 -- every history
 

@@ -97,15 +97,17 @@ moves-brought : (s t : State) (c : Call) (y : ℕ) (out : Evicted) → quiet c �
 moves-brought s t c y out q b = record {
   word = λ x. left (unwritten s c q x) (b .words x);
   mark = λ x. ⊎-elim
-    (λ (e : isEvicted x out). cleared (unwritten s c q x) (inl e) (b .goes x e))
-    (λ (n : isEvicted x out → ⊥). kept (unwritten s c q x) n (unsynced c q (x / 256)) (b .stays x n))
-    (evicted-cases x out) }
+      (λ (e : isEvicted x out). cleared (unwritten s c q x) (inl e) (b .goes x e))
+      (λ (n : isEvicted x out → ⊥). kept (unwritten s c q x) n (unsynced c q (x / 256)) (b .stays x n))
+      (evicted-cases x out);
+}
 
 -- such a call moves nothing but regions or wired places
 moves-nothing : (s t : State) (c : Call) → quiet c ≡ true → t .lies ≡ s .lies → t .words ≡ s .words → t .store ≡ s .store → t .dirty ≡ s .dirty → Moves s t c Nothing
 moves-nothing s t c q lies words store dirty = record {
   word = λ x. left (unwritten s c q x) (content-same s t x lies words store);
-  mark = λ x. kept (unwritten s c q x) (λ e. e) (unsynced c q (x / 256)) (modified-same s t x lies dirty) }
+  mark = λ x. kept (unwritten s c q x) (λ e. e) (unsynced c q (x / 256)) (modified-same s t x lies dirty);
+}
 
 -- a word is written to the frame of page y
 module _ (u : State) (y f w : ℕ) (g : Good u) (lies : lie u y ≡ Some f) where
@@ -142,30 +144,36 @@ moves-written s u a p w f out r b lies = record { word = word; mark = mark }
   where
     y : ℕ
     y = pageAt s a p
+
     t : State
     t = writtenTo u w (Some f)
+
     here : (x : ℕ) → x ≡ y → Written s (Write a p w) x w
     here x same = record { space = a; page = p; asked = refl; to = (r .region, r .found, sym (same ∙ r .page)) }
+
     only : (x : ℕ) → (x ≡ y → ⊥) → (v : ℕ) → Written s (Write a p w) x v → ⊥
     only x n v k =
         let asked = k .asked in
         let spaces : a ≡ k .space = cc in
         let pages : p ≡ k .page = cc in
         n (sym (ap (λ i. pageAt s i p) spaces ∙ ap (pageAt s (k .space)) pages ∙ stands-at s (k .space) (k .page) x (k .to)))
+
     no-sync : (o : ℕ) → Write a p w ≡ Sync o → ⊥
     no-sync o e = never (cc)
+
     word : (x : ℕ) → Word s t (Write a p w) x
     word x = ⊎-elim
         (λ (same : x ≡ y). put w (here x same) (ap (content t) same ∙ content-put u y f w (b .good) lies))
         (λ (n : x ≡ y → ⊥). left (only x n) (content-left u y f w (b .good) lies x n ∙ b .words x))
         (cases-eq x y)
+
     mark : (x : ℕ) → Mark s t (Write a p w) out x
     mark x = ⊎-elim
         (λ (same : x ≡ y). marks w (here x same) (ap (isModified t) same ∙ modified-set u y f w (b .good) lies))
         (λ (n : x ≡ y → ⊥). ⊎-elim
-          (λ (e : isEvicted x out). cleared (only x n) (inl e) (modified-left u y f w (b .good) lies x n ∙ b .goes x e))
-          (λ (q : isEvicted x out → ⊥). kept (only x n) q (no-sync (x / 256)) (modified-left u y f w (b .good) lies x n ∙ b .stays x q))
-          (evicted-cases x out))
+        (λ (e : isEvicted x out). cleared (only x n) (inl e) (modified-left u y f w (b .good) lies x n ∙ b .goes x e))
+        (λ (q : isEvicted x out → ⊥). kept (only x n) q (no-sync (x / 256)) (modified-left u y f w (b .good) lies x n ∙ b .stays x q))
+        (evicted-cases x out))
         (cases-eq x y)
 
 -- an object is synced
@@ -178,6 +186,7 @@ content-synced s o x g = by (lie s x) refl
         (λ (h : x < 2048). stored-at s o x h ∙ stored-same s o x (ap (dirtyIn (s .dirty)) e))
         (λ (h : 2048 ≤ x). stored-past s o x h ∙ sym (getD-past (s .store) x 0 (let l = g .store-long in omega arith)))
         (cases-lt x 2048)
+
     by : (l : Option ℕ) → lie s x ≡ l → wordOf (synced s o) x l ≡ wordOf s x l
     by None e = store e
     by (Some f) e = refl
@@ -207,12 +216,14 @@ moves-synced : (s : State) (o : ℕ) → Good s → Moves s (synced s o) (Sync o
 moves-synced s o g = record {
   word = λ x. left (no-write x) (content-synced s o x g);
   mark = λ x. ⊎-elim
-    (λ (q : x / 256 ≡ o). cleared (no-write x) (inr (ap Sync (sym q))) (modified-synced s o x g q))
-    (λ (n : x / 256 ≡ o → ⊥). kept (no-write x) (λ e. e) (λ e. n (sym (objects (x / 256) e))) (modified-unsynced s o x g n))
-    (cases-eq (x / 256) o) }
+      (λ (q : x / 256 ≡ o). cleared (no-write x) (inr (ap Sync (sym q))) (modified-synced s o x g q))
+      (λ (n : x / 256 ≡ o → ⊥). kept (no-write x) (λ e. e) (λ e. n (sym (objects (x / 256) e))) (modified-unsynced s o x g n))
+      (cases-eq (x / 256) o);
+}
   where
     no-write : (x w : ℕ) → Written s (Sync o) x w → ⊥
     no-write x w k = let asked = k .asked in never (cc)
+
     objects : (i : ℕ) → Sync o ≡ Sync i → o ≡ i
     objects i e = cc
 
@@ -222,11 +233,14 @@ moves-like s u t c out m lies words store dirty = record { word = λ x. word x (
   where
     same-word : (x : ℕ) → content t x ≡ content u x
     same-word x = content-same u t x lies words store
+
     same-mark : (x : ℕ) → isModified t x ≡ isModified u x
     same-mark x = modified-same u t x lies dirty
+
     word : (x : ℕ) → Word s u c x → Word s t c x
     word x (put w k e) = put w k (same-word x ∙ e)
     word x (left n e) = left n (same-word x ∙ e)
+
     mark : (x : ℕ) → Mark s u c out x → Mark s t c out x
     mark x (marks w k e) = marks w k (same-mark x ∙ e)
     mark x (cleared n why e) = cleared n why (same-mark x ∙ e)
@@ -250,7 +264,7 @@ moves s (Wire a p) hit g e =
     let u = resident s y in
     let b = reached s a p g (wire-passed s a p g e .0) in
     rw (b .lies) (moves-like s u (wiredTo u a p (Some (b .frame))) (Wire a p) (evictedBy s (lie s y))
-        (moves-brought s u (Wire a p) y (evictedBy s (lie s y)) refl b)
-        refl refl refl refl)
+    (moves-brought s u (Wire a p) y (evictedBy s (lie s y)) refl b)
+    refl refl refl refl)
 moves s (Unwire a p) hit g e = moves-nothing s (moved s (Unwire a p)) (Unwire a p) refl refl refl refl refl
 moves s (Sync o) hit g e = moves-synced s o g
