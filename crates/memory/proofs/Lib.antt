@@ -2,3 +2,4 @@ pub mod Firsts
 pub mod Matching
 pub mod Ranging
 pub mod StoredPages
+pub mod Evictions
