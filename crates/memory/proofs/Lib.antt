@@ -4,3 +4,4 @@ pub mod Ranging
 pub mod StoredPages
 pub mod Evictions
 pub mod Bringing
+pub mod Reached

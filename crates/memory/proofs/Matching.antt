@@ -27,7 +27,7 @@ abbrev pub HeldAt : Type 0
 HeldAt = ℕ → ℕ → Option Mapping
 
 -- whether two places are one
-cases-place : (a b c d : ℕ) → ((c ≡ a) × (d ≡ b)) ⊎ Elsewhere a b c d
+pub cases-place : (a b c d : ℕ) → ((c ≡ a) × (d ≡ b)) ⊎ Elsewhere a b c d
 cases-place a b c d = ⊎-elim
     (λ (x : c ≡ a). ⊎-elim (λ (y : d ≡ b). inl (x, y)) (λ (n : d ≡ b → ⊥). inr (λ _ y. n y)) (cases-eq d b))
     (λ (n : c ≡ a → ⊥). inr (λ x _. n x))
