@@ -35,10 +35,12 @@ pub impl fmt::Display for Layer as LayerDisplay {
     ghost shown = { λ l. Some (letter l) };
 
     fn fmt<W: fmt::Write>(&self, f: &mut fmt::Formatter<W>) -> fmt::Result {
-        f.write_str(match self {
-            Layer::File => "F",
-            Layer::Memory => "M",
-            Layer::Pmap => "P",
-        })
+        f.write_str(
+            match self {
+                Layer::File => "F",
+                Layer::Memory => "M",
+                Layer::Pmap => "P",
+            },
+        )
     }
 }

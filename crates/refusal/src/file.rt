@@ -27,6 +27,9 @@ pub impl Refusal for FileRefusal as FileRefusalCode {
             FileRefusal::Operation => 3,
             FileRefusal::Field => 4,
         };
-        Code { number, layer: Layer::File }
+        Code {
+            number,
+            layer: Layer::File,
+        }
     }
 }

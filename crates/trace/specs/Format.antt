@@ -35,16 +35,17 @@ fieldsOf n = record {
   offset = n / 2 ^ 49 % 2 ^ 8;
   protection = n / 2 ^ 47 % 2 ^ 2;
   zero = n / 2 ^ 32 % 2 ^ 15;
-  word = n % 2 ^ 32 }
+  word = n % 2 ^ 32;
+}
 
 -- the zero field and the fields that an operation from 1 to 8 does not use
 abbrev pub unused : Fields → List ℕ
 unused f =
-  cond (eqb (f .operation) 1) (f .zero ∷ f .word ∷ [])
-  (cond (eqb (f .operation) 3) (f .count ∷ f .object ∷ f .offset ∷ f .zero ∷ f .word ∷ [])
-  (cond (eqb (f .operation) 5) (f .count ∷ f .object ∷ f .offset ∷ f .protection ∷ f .zero ∷ [])
-  (cond (eqb (f .operation) 8) (f .space ∷ f .page ∷ f .count ∷ f .offset ∷ f .protection ∷ f .zero ∷ f .word ∷ [])
-  (f .count ∷ f .object ∷ f .offset ∷ f .protection ∷ f .zero ∷ f .word ∷ []))))
+    cond (eqb (f .operation) 1) (f .zero ∷ f .word ∷ [])
+    (cond (eqb (f .operation) 3) (f .count ∷ f .object ∷ f .offset ∷ f .zero ∷ f .word ∷ [])
+    (cond (eqb (f .operation) 5) (f .count ∷ f .object ∷ f .offset ∷ f .protection ∷ f .zero ∷ [])
+    (cond (eqb (f .operation) 8) (f .space ∷ f .page ∷ f .count ∷ f .offset ∷ f .protection ∷ f .zero ∷ f .word ∷ [])
+    (f .count ∷ f .object ∷ f .offset ∷ f .protection ∷ f .zero ∷ f .word ∷ []))))
 
 abbrev pub allZero : List ℕ → Bool
 allZero [] = true
@@ -56,20 +57,20 @@ unusedZero f = allZero (unused f)
 -- the record of an operation from 1 to 8, which holds the fields that the operation uses
 abbrev pub recordOf : Fields → Record
 recordOf f =
-  cond (eqb (f .operation) 1) (Map (f .space) (f .page) (f .count) (f .object) (f .offset) (f .protection))
-  (cond (eqb (f .operation) 2) (Unmap (f .space) (f .page))
-  (cond (eqb (f .operation) 3) (Protect (f .space) (f .page) (f .protection))
-  (cond (eqb (f .operation) 4) (Read (f .space) (f .page))
-  (cond (eqb (f .operation) 5) (Write (f .space) (f .page) (f .word))
-  (cond (eqb (f .operation) 6) (Wire (f .space) (f .page))
-  (cond (eqb (f .operation) 7) (Unwire (f .space) (f .page))
-  (Sync (f .object))))))))
+    cond (eqb (f .operation) 1) (Map (f .space) (f .page) (f .count) (f .object) (f .offset) (f .protection))
+    (cond (eqb (f .operation) 2) (Unmap (f .space) (f .page))
+    (cond (eqb (f .operation) 3) (Protect (f .space) (f .page) (f .protection))
+    (cond (eqb (f .operation) 4) (Read (f .space) (f .page))
+    (cond (eqb (f .operation) 5) (Write (f .space) (f .page) (f .word))
+    (cond (eqb (f .operation) 6) (Wire (f .space) (f .page))
+    (cond (eqb (f .operation) 7) (Unwire (f .space) (f .page))
+    (Sync (f .object))))))))
 
 -- refusal 3 where the operation is 0 or above 8, else 4 where a field that is to be zero is not, else the record
 abbrev pub contentOf : Fields → Result Record FileRefusal
 contentOf f =
-  cond (eqb (f .operation) 0 || ltb 8 (f .operation)) (Err Operation)
-  (cond (unusedZero f) (Ok (recordOf f)) (Err Field))
+    cond (eqb (f .operation) 0 || ltb 8 (f .operation)) (Err Operation)
+    (cond (unusedZero f) (Ok (recordOf f)) (Err Field))
 
 -- what the twelve bytes from `at` on spell
 unfoldable pub contentAt : List ℕ → ℕ → Result Record FileRefusal
@@ -116,14 +117,14 @@ fieldsIn (Sync o) = record { operation = 8; space = 0; page = 0; count = 0; obje
 -- whether each field fits its bits
 abbrev pub fit : Fields → Bool
 fit f =
-  ltb (f .operation) (2 ^ 4) && ltb (f .space) (2 ^ 4) && ltb (f .page) (2 ^ 18) && ltb (f .count) (2 ^ 9) && ltb (f .object) (2 ^ 4)
-  && ltb (f .offset) (2 ^ 8) && ltb (f .protection) (2 ^ 2) && ltb (f .zero) (2 ^ 15) && ltb (f .word) (2 ^ 32)
+    ltb (f .operation) (2 ^ 4) && ltb (f .space) (2 ^ 4) && ltb (f .page) (2 ^ 18) && ltb (f .count) (2 ^ 9) && ltb (f .object) (2 ^ 4)
+    && ltb (f .offset) (2 ^ 8) && ltb (f .protection) (2 ^ 2) && ltb (f .zero) (2 ^ 15) && ltb (f .word) (2 ^ 32)
 
 -- the fields side by side in one number
 abbrev pub packed : Fields → ℕ
 packed f =
-  f .operation * 2 ^ 92 + f .space * 2 ^ 88 + f .page * 2 ^ 70 + f .count * 2 ^ 61 + f .object * 2 ^ 57
-  + f .offset * 2 ^ 49 + f .protection * 2 ^ 47 + f .zero * 2 ^ 32 + f .word
+    f .operation * 2 ^ 92 + f .space * 2 ^ 88 + f .page * 2 ^ 70 + f .count * 2 ^ 61 + f .object * 2 ^ 57
+    + f .offset * 2 ^ 49 + f .protection * 2 ^ 47 + f .zero * 2 ^ 32 + f .word
 
 -- the twelve bytes of a number, most significant first
 abbrev pub bytesOf : ℕ → List ℕ
@@ -141,3 +142,7 @@ window bytes at = map (λ k. getD bytes (at + k) 0) (counting 0 12)
 abbrev pub Own : Result Record FileRefusal → List ℕ → ℕ → Type 0
 Own (Ok r) bytes at = encoded r ≡ Some (window bytes at)
 Own (Err _) bytes at = Unit {0}
+
+-- the two bytes of a frame count from 1 to 256; refusal 1 at any other
+abbrev pub encodedFrames : ℕ → Result (List ℕ) FileRefusal
+encodedFrames n = cond (leb 1 n && leb n 256) (Ok (n / 256 ∷ n % 256 ∷ [])) (Err Size)

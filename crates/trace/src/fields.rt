@@ -1,7 +1,10 @@
 // The nine fields of a record, and the one number of 96 bits that holds them.
 ghost use mathlib.Core.Path.{_≡_};
-ghost use Prim.Native.Nat.{_/_, _%_, _^_, _<_};
-ghost use Rattle.trace.specs.Format.{fieldsOf, contentOf, unusedZero};
+ghost use mathlib.Core.Bool.{cond};
+ghost use Prim.Native.Nat.{_+_, _*_, _/_, _%_, _^_, _<_};
+ghost use lib.Dec.{ltb};
+ghost use Rattle.std.specs.declared.option.Option.the-variants.{Some, None};
+ghost use Rattle.trace.specs.Format.{fieldsOf, contentOf, unusedZero, fieldsIn, fit, packed};
 use crate::record::Record;
 use refusal::file::FileRefusal;
 
@@ -24,6 +27,18 @@ fn bits(number: u128, low: u32, width: u32) -> u128
     ensures { λ r. ⌜ r ≡ number / 2 ^ low % 2 ^ width ⌝ }
 {
     number >> low & ((1 << width) - 1)
+}
+
+// A number with the `width` bits of a value put below its own; none where the value has more bits.
+fn append(number: u128, width: u32, value: u128) -> Option<u128>
+    requires { ⌜ width < 128 ⌝ ∗ ⌜ number * 2 ^ width < 2 ^ 128 ⌝ }
+    ensures { λ r. ⌜ r ≡ cond (ltb value (2 ^ width)) (Some (number * 2 ^ width + value)) None ⌝ }
+{
+    if value < 1 << width {
+        Some(number << width | value)
+    } else {
+        None
+    }
 }
 
 impl Fields {
@@ -61,11 +76,32 @@ impl Fields {
     pub fn content(&self) -> Result<Record, FileRefusal>
         ensures { λ r. ⌜ r ≡ contentOf (now (self .entry)) ⌝ }
     {
-        let Fields { operation, space, page, count, object, offset, protection, word, .. } = *self;
+        let Fields {
+            operation,
+            space,
+            page,
+            count,
+            object,
+            offset,
+            protection,
+            word,
+            ..
+        } = *self;
         let found = match operation {
-            1 => Record::Map { space, page, count, object, offset, protection },
+            1 => Record::Map {
+                space,
+                page,
+                count,
+                object,
+                offset,
+                protection,
+            },
             2 => Record::Unmap { space, page },
-            3 => Record::Protect { space, page, protection },
+            3 => Record::Protect {
+                space,
+                page,
+                protection,
+            },
             4 => Record::Read { space, page },
             5 => Record::Write { space, page, word },
             6 => Record::Wire { space, page },
@@ -73,6 +109,109 @@ impl Fields {
             8 => Record::Sync { object },
             _ => return Err(FileRefusal::Operation),
         };
-        if self.unused_zero() { Ok(found) } else { Err(FileRefusal::Field) }
+        if self.unused_zero() {
+            Ok(found)
+        } else {
+            Err(FileRefusal::Field)
+        }
+    }
+    // The fields of a record: those that its operation does not use are zero.
+    pub fn of_record(call: Record) -> Fields
+        ensures { λ r. ⌜ r ≡ fieldsIn call ⌝ }
+    {
+        let none = Fields {
+            operation: 0,
+            space: 0,
+            page: 0,
+            count: 0,
+            object: 0,
+            offset: 0,
+            protection: 0,
+            zero: 0,
+            word: 0,
+        };
+        match call {
+            Record::Map {
+                space,
+                page,
+                count,
+                object,
+                offset,
+                protection,
+            } => {
+                Fields {
+                    operation: 1,
+                    space,
+                    page,
+                    count,
+                    object,
+                    offset,
+                    protection,
+                    ..none
+                }
+            }
+            Record::Unmap { space, page } => Fields {
+                operation: 2,
+                space,
+                page,
+                ..none
+            },
+            Record::Protect {
+                space,
+                page,
+                protection,
+            } => Fields {
+                operation: 3,
+                space,
+                page,
+                protection,
+                ..none
+            },
+            Record::Read { space, page } => Fields {
+                operation: 4,
+                space,
+                page,
+                ..none
+            },
+            Record::Write { space, page, word } => Fields {
+                operation: 5,
+                space,
+                page,
+                word,
+                ..none
+            },
+            Record::Wire { space, page } => Fields {
+                operation: 6,
+                space,
+                page,
+                ..none
+            },
+            Record::Unwire { space, page } => Fields {
+                operation: 7,
+                space,
+                page,
+                ..none
+            },
+            Record::Sync { object } => Fields {
+                operation: 8,
+                object,
+                ..none
+            },
+        }
+    }
+
+    // The number of 96 bits that holds the fields, the operation highest; none where a field does not fit its bits.
+    pub fn number(&self) -> Option<u128>
+        ensures { λ r. ⌜ r ≡ cond (fit (now (self .entry))) (Some (packed (now (self .entry)))) None ⌝ }
+    {
+        let number = append(0, 4, u128::from(self.operation))?;
+        let number = append(number, 4, u128::from(self.space))?;
+        let number = append(number, 18, u128::from(self.page))?;
+        let number = append(number, 9, u128::from(self.count))?;
+        let number = append(number, 4, u128::from(self.object))?;
+        let number = append(number, 8, u128::from(self.offset))?;
+        let number = append(number, 2, u128::from(self.protection))?;
+        let number = append(number, 15, u128::from(self.zero))?;
+        append(number, 32, u128::from(self.word))
     }
 }

@@ -22,6 +22,7 @@ pub const MAX_FRAMES: u16 = 256;
 
 // The bytes of the frame count, and of a record.
 const COUNT_BYTES: usize = 2;
+
 const RECORD_BYTES: usize = 12;
 
 // The bytes of a file that no refusal turns away, and the place where the next record begins.
@@ -106,7 +107,10 @@ impl<'a> Reader<'a> {
         ensures bytes { λ r. ⌜ now (r .bytes) ≡ now (bytes .entry) ⌝ }
         ensures start { λ r. ⌜ r .at ≡ 2 ⌝ }
     {
-        Reader { bytes, at: COUNT_BYTES }
+        Reader {
+            bytes,
+            at: COUNT_BYTES,
+        }
     }
 
     // The entry at the position, which moves past it; none at the end, where the position stays.

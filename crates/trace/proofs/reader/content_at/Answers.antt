@@ -8,5 +8,5 @@ use Rattle.trace.proofs.reader.content_at.Needs as need
 pub returns : need.returns
 unfolding contentAt
 returns c =
-  let value = c .content .ensures ∙ ap contentOf (c .of-number .ensures ∙ ap fieldsOf (c .number-at .ensures)) in
-  record { value = value; own = content-at-own (c .content .result) (c .args .bytes .now) (c .args .at) (λ i. omega (arith, c .typed .bytes i)) value }
+    let value = c .content .ensures ∙ ap contentOf (c .of-number .ensures ∙ ap fieldsOf (c .number-at .ensures)) in
+    record { value = value; own = content-at-own (c .content .result) (c .args .bytes .now) (c .args .at) (λ i. omega (arith, c .typed .bytes i)) value }
