@@ -5,3 +5,4 @@ mod fields;
 pub mod listed;
 pub mod reader;
 pub mod record;
+pub mod words;
