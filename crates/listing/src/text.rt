@@ -1,57 +1,68 @@
 // The whole text of a listing.
+ghost use mathlib.Core.Path.{_≡_};
+ghost use mathlib.Core.List.{_++_};
+ghost use Prim.Native.Nat.{_≤_};
+ghost use lib.ListN.{length};
+ghost use Rattle.std.specs.Of.String.{string-bytes};
+ghost use Rattle.std.specs.Of.Vec.{vec-items};
+ghost use Rattle.std.specs.Vec.{made};
+ghost use Rattle.listing.specs.Text.{lines, turnedAway, traceText, listingText};
 use refusal::code::Refusal;
 use refusal::file::FileRefusalCode;
 use std::alloc::AllocError;
 use std::alloc::Global;
 use trace::listed::ReadError;
+use trace::listed::Trace;
 use trace::listed::read_all;
+use trace::record::Entry;
 use trace::words::EntryDisplay;
 
-on {protection}")
-            }
-            Record::Unmap { space, page } => write!(f, "unmap space {space} page {page}"),
-            Record::Protect { space, page, protection } => write!(f, "protect space {space} page {page} protection {protection}"),
-            Record::Read { space, page } => write!(f, "read space {space} page {page}"),
-            Record::Write { space, page, word } => write!(f, "write space {space} page {page} word {word}"),
-            Record::Wire { space, page } => write!(f, "wire space {space} page {page}"),
-            Record::Unwire { space, page } => write!(f, "unwire space {space} page {page}"),
-            Record::Sync { object } => write!(f, "sync object {object}"),
-        }
+// Puts a line for each entry behind a text.
+fn push_lines(heap: Global, text: &mut String, entries: &[Entry]) -> Result<(), AllocError>
+    ensures { λ r. ⌜ made r (λ _. string-bytes (now (text .exit)) ≡ string-bytes (now (text .entry)) ++ lines (now (entries .entry))) ⌝ }
+{
+    for item in entries {
+        text.push_str(format!(heap, "{item}\n")?.as_str())?;
     }
+    Ok(())
 }
 
-pub impl fmt::Display for Entry as EntryDisplay {
-    ghost shown = { λ e. Some (entryWords e) };
-
-    fn fmt<W: fmt::Write>(&self, f: &mut fmt::Formatter<W>) -> fmt::Result {
-        let number = self.number;
-        match self.content {
-            Ok(call) => write!(f, "{number} {call}"),
-            Err(refusal) => {
-                let code = refusal.code();
-                let which = code.number;
-                let layer = code.layer;
-                write!(f, "{number} refused {which} {layer}")
-            }
+// How many entries are turned away.
+fn turned_away(entries: &[Entry]) -> usize
+    ensures { λ r. ⌜ r ≡ turnedAway (now (entries .entry)) ⌝ }
+{
+    let mut count = 0usize;
+    for item in entries {
+        if item.content.is_err() {
+            count += 1;
         }
     }
+    count
 }
 
-pub fn listing(heap: Global, bytes: &[u8]) -> Result<String, AllocError> {
-    let trace = match read_all(heap, bytes) {
-        Ok(trace) => trace,
+// A line for each entry of a trace, and a last one with the counts.
+fn trace_text(heap: Global, trace: &Trace) -> Result<String, AllocError>
+    ensures { λ r. ⌜ made r (λ t. string-bytes t ≡ traceText (now (trace .entry) .frames) (vec-items (now (trace .entry) .entries))) ⌝ }
+{
+    let mut text = String::new(heap);
+    push_lines(heap, &mut text, &trace.entries)?;
+    let frames = trace.frames;
+    let records = trace.entries.len();
+    let refused = turned_away(&trace.entries);
+    text.push_str(format!(heap, "listed: frame count {frames}, records {records}, turned away {refused}\n")?.as_str())?;
+    Ok(text)
+}
+
+// The listing of a file: the text of its trace, or the number of what turns the whole file away.
+pub fn listing(heap: Global, bytes: &[u8]) -> Result<String, AllocError>
+    ensures { λ r. ⌜ made r (λ t. string-bytes t ≡ listingText (now (bytes .entry))) ⌝ }
+{
+    match read_all(heap, bytes) {
+        Ok(trace) => trace_text(heap, &trace),
         Err(ReadError::File(refusal)) => {
             let number = refusal.code().number;
-            return format!(heap, "file {number}\n");
+            format!(heap, "file {number}\n")
         }
-        Err(ReadError::Memory) => return Err(AllocError),
-    };
-    let mut text = String::new(heap);
-    for entry in trace.entries.iter() {
-        match writeln!(text, "{entry}") {
-            Ok(()) => {}
-            Err(_) => return Err(AllocError),
-        }
+        Err(ReadError::Memory) => Err(AllocError),
     }
-    Ok(text)
 }

@@ -8,12 +8,13 @@ use borrow.Author.Count.{below-more}
 use denote.Ref.{now}
 use lib.Dec.{ltb}
 use lib.ListN.{length, getD}
+use Rattle.std.proofs.shelf.Counted.{fill-by-all}
 use Rattle.std.proofs.shelf.Ways.{tells}
 use Rattle.std.specs.Of.Vec.{vec-items, vec-len}
 use Rattle.std.specs.declared.option.Option.{Option}
 use Rattle.std.specs.declared.option.Option.the-variants.{Some, None}
 use Rattle.trace.specs.declared.record.Entry.{Entry}
-use Rattle.trace.specs.Format.{entryAt, contentAt}
+use Rattle.trace.specs.Format.{entryAt, contentAt, recordCount}
 use Rattle.trace.proofs.Codec.{content-at-own}
 use Rattle.trace.proofs.listed.read_all.Needs as need
 
@@ -44,9 +45,13 @@ returns c =
     let b = c .args .bytes .now in
     let all : (length b - 2) / 12 ≡ vec-len (c .loop-entry .entries) =
     omega (arith, stop (now (c .loop-entry .reader .bytes)) (c .loop-entry .reader .at) (c .in-rest .ensures tt .answer), inv .1, ap length (inv .0)) in
+    let count = sym (all ∙ c .loop-entry .entries .ok .0) in
+    let places : (k : ℕ) (d : Entry) → k < recordCount b → getD (vec-items (c .loop-entry .entries)) k d ≡ entryAt b (2 + 12 * k) =
+    λ k d h. inv .2 k d (omega (arith, all)) in
     record {
       passed = sym (c .in-Continue-frames .ensures tt);
-      count = sym (all ∙ c .loop-entry .entries .ok .0);
-      places = λ k d h. inv .2 k d (omega (arith, all));
+      count = count;
+      places = places;
+      whole = fill-by-all (λ k. entryAt b (2 + 12 * k)) (vec-items (c .loop-entry .entries)) (recordCount b) (entryAt b 2) count (λ k. places k (entryAt b 2));
       own = λ k h. content-at-own (contentAt b (2 + 12 * k)) b (2 + 12 * k) (λ i. omega (arith, c .typed .bytes i)) refl;
     }
