@@ -27,8 +27,8 @@ turnedAway (e ∷ es) = cond (isErr (e .content)) 1 0 + turnedAway es
 -- the lines of a trace's entries, and then its counts
 abbrev pub traceText : ℕ → List Entry → List ℕ
 traceText frames entries =
-  lines entries ++ (codes "listed: frame count " ++ (decimal frames ++ (codes ", records " ++ (decimal (length entries)
-  ++ (codes ", turned away " ++ (decimal (turnedAway entries) ++ codes "\n"))))))
+    lines entries ++ (codes "listed: frame count " ++ (decimal frames ++ (codes ", records " ++ (decimal (length entries)
+    ++ (codes ", turned away " ++ (decimal (turnedAway entries) ++ codes "\n"))))))
 
 -- of a file that is turned away, only the number of its refusal
 abbrev pub textBy : Result ℕ FileRefusal → List Entry → List ℕ

@@ -49,7 +49,10 @@ fn trace_text(heap: Global, trace: &Trace) -> Result<String, AllocError>
     let frames = trace.frames;
     let records = trace.entries.len();
     let refused = turned_away(&trace.entries);
-    text.push_str(format!(heap, "listed: frame count {frames}, records {records}, turned away {refused}\n")?.as_str())?;
+    text.push_str(format!(
+        heap,
+        "listed: frame count {frames}, records {records}, turned away {refused}\n"
+    )?.as_str())?;
     Ok(text)
 }
 

@@ -15,8 +15,8 @@ use Rattle.trace.specs.declared.record.Record.the-variants.{Map, Unmap, Protec
 -- the operation, and each field that it uses after its name
 abbrev pub callWords : Record → List ℕ
 callWords (Map s p c o f r) =
-  codes "map space " ++ (decimal s ++ (codes " page " ++ (decimal p ++ (codes " count " ++ (decimal c ++ (codes " object " ++ (decimal o
-  ++ (codes " offset " ++ (decimal f ++ (codes " protection " ++ decimal r))))))))))
+    codes "map space " ++ (decimal s ++ (codes " page " ++ (decimal p ++ (codes " count " ++ (decimal c ++ (codes " object " ++ (decimal o
+    ++ (codes " offset " ++ (decimal f ++ (codes " protection " ++ decimal r))))))))))
 callWords (Unmap s p) = codes "unmap space " ++ (decimal s ++ (codes " page " ++ decimal p))
 callWords (Protect s p r) = codes "protect space " ++ (decimal s ++ (codes " page " ++ (decimal p ++ (codes " protection " ++ decimal r))))
 callWords (Read s p) = codes "read space " ++ (decimal s ++ (codes " page " ++ decimal p))

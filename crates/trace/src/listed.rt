@@ -8,7 +8,7 @@ ghost use Rattle.trace.specs.Format.{checked};
 ghost use Rattle.trace.specs.Listed.{Listed};
 ghost use Rattle.trace.specs.declared.listed.ReadError.the-variants.{File, Memory};
 use crate::reader::Reader;
-use crate::reader::check;
+use crate::reader::check_file;
 use crate::record::Entry;
 use refusal::file::FileRefusal;
 use std::alloc::Global;
@@ -48,7 +48,7 @@ pub impl<T: Drop> From<Refused<T>> for ReadError as ReadErrorFromRefused {
 pub fn read_all(heap: Global, bytes: &[u8]) -> Result<Trace, ReadError>
     ensures { λ r. ⌜ ByOk r (λ t. Listed (now (bytes .entry)) (t .frames) (vec-items (t .entries))) (λ e. elim e [ File f ↦ checked (now (bytes .entry)) ≡ Err f | Memory ↦ isOk (checked (now (bytes .entry))) ≡ true ]) ⌝ }
 {
-    let frames = check(bytes)?;
+    let frames = check_file(bytes)?;
     let mut entries = Vec::new(heap);
     let mut reader = Reader::new(bytes);
     while let Some(entry) = reader.next_entry() {

@@ -82,7 +82,7 @@ fn frame_count(bytes: &[u8]) -> Option<u16>
 }
 
 // The frame count of a file, or what turns the whole file away.
-pub fn check(bytes: &[u8]) -> Result<u16, FileRefusal>
+pub fn check_file(bytes: &[u8]) -> Result<u16, FileRefusal>
     ensures { λ r. ⌜ r ≡ checked (now (bytes .entry)) ⌝ }
 {
     if bytes.len() > MAX_BYTES {
@@ -101,7 +101,7 @@ pub fn check(bytes: &[u8]) -> Result<u16, FileRefusal>
 }
 
 impl<'a> Reader<'a> {
-    // A reader at the first record of a file that `check` lets pass.
+    // A reader at the first record of a file that `check_file` lets pass.
     pub fn new(bytes: &'a [u8]) -> Reader<'a>
         requires { ⌜ isOk (checked (now bytes)) ≡ true ⌝ }
         ensures bytes { λ r. ⌜ now (r .bytes) ≡ now (bytes .entry) ⌝ }

@@ -13,13 +13,33 @@ pub impl fmt::Display for Record as RecordDisplay {
 
     fn fmt<W: fmt::Write>(&self, f: &mut fmt::Formatter<W>) -> fmt::Result {
         match *self {
-            Record::Map { space, page, count, object, offset, protection } => {
-                write!(f, "map space {space} page {page} count {count} object {object} offset {offset} protection {protection}")
+            Record::Map {
+                space,
+                page,
+                count,
+                object,
+                offset,
+                protection,
+            } => {
+                write!(
+                    f,
+                    "map space {space} page {page} count {count} object {object} offset {offset} protection {protection}"
+                )
             }
             Record::Unmap { space, page } => write!(f, "unmap space {space} page {page}"),
-            Record::Protect { space, page, protection } => write!(f, "protect space {space} page {page} protection {protection}"),
+            Record::Protect {
+                space,
+                page,
+                protection,
+            } => write!(
+                f,
+                "protect space {space} page {page} protection {protection}"
+            ),
             Record::Read { space, page } => write!(f, "read space {space} page {page}"),
-            Record::Write { space, page, word } => write!(f, "write space {space} page {page} word {word}"),
+            Record::Write { space, page, word } => write!(
+                f,
+                "write space {space} page {page} word {word}"
+            ),
             Record::Wire { space, page } => write!(f, "wire space {space} page {page}"),
             Record::Unwire { space, page } => write!(f, "unwire space {space} page {page}"),
             Record::Sync { object } => write!(f, "sync object {object}"),

@@ -9,10 +9,10 @@ use Rattle.listing.proofs.text.listing.Needs as need
 
 pub returns-in-Ok : need.returns-in-Ok
 returns-in-Ok c =
-  let bytes = c .args .bytes .now in
-  let frames = c .in-Ok .trace .frames in
-  let law = c .in-Ok .ensures tt in
-  made-weaker (c .trace-text .result)
+    let bytes = c .args .bytes .now in
+    let frames = c .in-Ok .trace .frames in
+    let law = c .in-Ok .ensures tt in
+    made-weaker (c .trace-text .result)
     (λ t. string-bytes t ≡ traceText frames (vec-items (c .in-Ok .trace .entries))) (λ t. string-bytes t ≡ listingText bytes)
     (λ t e. e ∙ ap (traceText frames) (law .whole) ∙ sym (ap (λ x. textBy x (entriesOf bytes)) (law .passed)))
     (c .trace-text .ensures)
