@@ -66,10 +66,14 @@ recordOf f =
     (cond (eqb (f .operation) 7) (Unwire (f .space) (f .page))
     (Sync (f .object))))))))
 
+-- an operation that there is not
+abbrev pub unknown : ℕ → Bool
+unknown operation = eqb operation 0 || ltb 8 operation
+
 -- refusal 3 where the operation is 0 or above 8, else 4 where a field that is to be zero is not, else the record
 abbrev pub contentOf : Fields → Result Record FileRefusal
 contentOf f =
-    cond (eqb (f .operation) 0 || ltb 8 (f .operation)) (Err Operation)
+    cond (unknown (f .operation)) (Err Operation)
     (cond (unusedZero f) (Ok (recordOf f)) (Err Field))
 
 -- what the twelve bytes from `at` on spell
@@ -103,15 +107,19 @@ recordCount bytes = (length bytes - 2) / 12
 abbrev pub entriesOf : List ℕ → List Entry
 entriesOf bytes = map (λ k. entryAt bytes (2 + 12 * k)) (counting 0 (recordCount bytes))
 
+-- an operation at a place, with all other fields zero
+abbrev pub placed : ℕ → ℕ → ℕ → Fields
+placed operation s p = record { operation = operation; space = s; page = p; count = 0; object = 0; offset = 0; protection = 0; zero = 0; word = 0 }
+
 -- the fields of a record: those that its operation does not use are zero
 abbrev pub fieldsIn : Record → Fields
 fieldsIn (Map s p c o f r) = record { operation = 1; space = s; page = p; count = c; object = o; offset = f; protection = r; zero = 0; word = 0 }
-fieldsIn (Unmap s p) = record { operation = 2; space = s; page = p; count = 0; object = 0; offset = 0; protection = 0; zero = 0; word = 0 }
+fieldsIn (Unmap s p) = placed 2 s p
 fieldsIn (Protect s p r) = record { operation = 3; space = s; page = p; count = 0; object = 0; offset = 0; protection = r; zero = 0; word = 0 }
-fieldsIn (Read s p) = record { operation = 4; space = s; page = p; count = 0; object = 0; offset = 0; protection = 0; zero = 0; word = 0 }
+fieldsIn (Read s p) = placed 4 s p
 fieldsIn (Write s p w) = record { operation = 5; space = s; page = p; count = 0; object = 0; offset = 0; protection = 0; zero = 0; word = w }
-fieldsIn (Wire s p) = record { operation = 6; space = s; page = p; count = 0; object = 0; offset = 0; protection = 0; zero = 0; word = 0 }
-fieldsIn (Unwire s p) = record { operation = 7; space = s; page = p; count = 0; object = 0; offset = 0; protection = 0; zero = 0; word = 0 }
+fieldsIn (Wire s p) = placed 6 s p
+fieldsIn (Unwire s p) = placed 7 s p
 fieldsIn (Sync o) = record { operation = 8; space = 0; page = 0; count = 0; object = o; offset = 0; protection = 0; zero = 0; word = 0 }
 
 -- whether each field fits its bits

@@ -4,7 +4,7 @@ ghost use mathlib.Core.Bool.{cond};
 ghost use Prim.Native.Nat.{_+_, _*_, _/_, _%_, _^_, _<_};
 ghost use lib.Dec.{ltb};
 ghost use Rattle.std.specs.declared.option.Option.the-variants.{Some, None};
-ghost use Rattle.trace.specs.Format.{fieldsOf, contentOf, unusedZero, fieldsIn, fit, packed};
+ghost use Rattle.trace.specs.Format.{fieldsOf, unknown, unusedZero, recordOf, contentOf, placed, fieldsIn, fit, packed};
 use crate::record::Record;
 use refusal::file::FileRefusal;
 
@@ -72,64 +72,74 @@ impl Fields {
             && (operation == 5 || self.word == 0)
     }
 
+    // The record of an operation from 1 to 8, with the fields that the operation uses; none of another operation.
+    fn call(&self) -> Option<Record>
+        ensures { λ r. ⌜ r ≡ cond (unknown (now (self .entry) .operation)) None (Some (recordOf (now (self .entry)))) ⌝ }
+    {
+        let (space, page, count) = (self.space, self.page, self.count);
+        let (object, offset, protection) = (self.object, self.offset, self.protection);
+        let word = self.word;
+        Some(
+            match self.operation {
+                1 => Record::Map {
+                    space,
+                    page,
+                    count,
+                    object,
+                    offset,
+                    protection,
+                },
+                2 => Record::Unmap { space, page },
+                3 => Record::Protect {
+                    space,
+                    page,
+                    protection,
+                },
+                4 => Record::Read { space, page },
+                5 => Record::Write { space, page, word },
+                6 => Record::Wire { space, page },
+                7 => Record::Unwire { space, page },
+                8 => Record::Sync { object },
+                _ => return None,
+            },
+        )
+    }
+
     // The record that the fields spell, or why they spell none.
     pub fn content(&self) -> Result<Record, FileRefusal>
         ensures { λ r. ⌜ r ≡ contentOf (now (self .entry)) ⌝ }
     {
-        let Fields {
-            operation,
-            space,
-            page,
-            count,
-            object,
-            offset,
-            protection,
-            word,
-            ..
-        } = *self;
-        let found = match operation {
-            1 => Record::Map {
-                space,
-                page,
-                count,
-                object,
-                offset,
-                protection,
-            },
-            2 => Record::Unmap { space, page },
-            3 => Record::Protect {
-                space,
-                page,
-                protection,
-            },
-            4 => Record::Read { space, page },
-            5 => Record::Write { space, page, word },
-            6 => Record::Wire { space, page },
-            7 => Record::Unwire { space, page },
-            8 => Record::Sync { object },
-            _ => return Err(FileRefusal::Operation),
+        let Some(call) = self.call() else {
+            return Err(FileRefusal::Operation);
         };
         if self.unused_zero() {
-            Ok(found)
+            Ok(call)
         } else {
             Err(FileRefusal::Field)
         }
     }
-    // The fields of a record: those that its operation does not use are zero.
-    pub fn of_record(call: Record) -> Fields
-        ensures { λ r. ⌜ r ≡ fieldsIn call ⌝ }
+
+    // An operation at a place, with all other fields zero.
+    fn at_place(operation: u8, space: u8, page: u32) -> Fields
+        ensures { λ r. ⌜ r ≡ placed operation space page ⌝ }
     {
-        let none = Fields {
-            operation: 0,
-            space: 0,
-            page: 0,
+        Fields {
+            operation,
+            space,
+            page,
             count: 0,
             object: 0,
             offset: 0,
             protection: 0,
             zero: 0,
             word: 0,
-        };
+        }
+    }
+
+    // The fields of a record: those that its operation does not use are zero.
+    pub fn of_record(call: Record) -> Fields
+        ensures { λ r. ⌜ r ≡ fieldsIn call ⌝ }
+    {
         match call {
             Record::Map {
                 space,
@@ -140,62 +150,32 @@ impl Fields {
                 protection,
             } => {
                 Fields {
-                    operation: 1,
-                    space,
-                    page,
                     count,
                     object,
                     offset,
                     protection,
-                    ..none
+                    ..Fields::at_place(1, space, page)
                 }
             }
-            Record::Unmap { space, page } => Fields {
-                operation: 2,
-                space,
-                page,
-                ..none
-            },
+            Record::Unmap { space, page } => Fields::at_place(2, space, page),
             Record::Protect {
                 space,
                 page,
                 protection,
             } => Fields {
-                operation: 3,
-                space,
-                page,
                 protection,
-                ..none
+                ..Fields::at_place(3, space, page)
             },
-            Record::Read { space, page } => Fields {
-                operation: 4,
-                space,
-                page,
-                ..none
-            },
+            Record::Read { space, page } => Fields::at_place(4, space, page),
             Record::Write { space, page, word } => Fields {
-                operation: 5,
-                space,
-                page,
                 word,
-                ..none
+                ..Fields::at_place(5, space, page)
             },
-            Record::Wire { space, page } => Fields {
-                operation: 6,
-                space,
-                page,
-                ..none
-            },
-            Record::Unwire { space, page } => Fields {
-                operation: 7,
-                space,
-                page,
-                ..none
-            },
+            Record::Wire { space, page } => Fields::at_place(6, space, page),
+            Record::Unwire { space, page } => Fields::at_place(7, space, page),
             Record::Sync { object } => Fields {
-                operation: 8,
                 object,
-                ..none
+                ..Fields::at_place(8, 0, 0)
             },
         }
     }

@@ -1,10 +1,7 @@
 // A record of a trace: one case for each operation, with just the fields that the operation uses.
 use refusal::file::FileRefusal;
-use refusal::file::FileRefusalDebug;
-use refusal::file::FileRefusalEq;
-use refusal::file::FileRefusalPartialEq;
 
-#[derive(Clone, Copy, PartialEq, Eq, Debug)]
+#[derive(Clone, Copy, PartialEq, Debug)]
 pub enum Record {
     Map {
         space: u8,
@@ -46,7 +43,7 @@ pub enum Record {
 }
 
 // What stands at a place of a trace file: the place's number from 0, and the record or why it is turned away.
-#[derive(Clone, Copy, PartialEq, Eq, Debug)]
+#[derive(Clone, Copy)]
 pub struct Entry {
     pub number: u32,
     pub content: Result<Record, FileRefusal>,
