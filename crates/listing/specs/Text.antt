@@ -1,5 +1,5 @@
 -- The text of a listing, as bytes: what the program prints of a file. Assumes nothing of the file.
-use mathlib.Core.Bool.{Bool, true, false, cond}
+use mathlib.Core.Bool.{cond}
 use mathlib.Core.List.{List, [], _∷_, _++_}
 use Prim.Native.Nat.{ℕ, _+_}
 use lib.Chars.{codes}

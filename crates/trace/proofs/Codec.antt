@@ -1,12 +1,13 @@
 -- Encoding and decoding undo one another.
 use mathlib.Core.Path.{_≡_, refl, sym, ap, _∙_}
 use mathlib.Core.Bool.{Bool, true, false, cond}
-use mathlib.Core.List.{List, [], _∷_}
-use Prim.Native.Nat.{ℕ, _+_, _*_, _/_, _%_, _^_, _<_}
+use mathlib.Core.List.{List}
+use Prim.Native.Nat.{ℕ, zero, suc, _+_, _*_, _/_, _%_, _^_, _<_}
+use native.Mathlib.Nat.{add-zero, add-suc, div-one}
 use native.Mathlib.Omega.{arith}
 use lib.Arith.{digits-div, digits-mod}
-use lib.Dec.{eqb, ltb}
 use lib.ListN.{getD}
+use Rattle.std.proofs.shelf.Bits.{shr-shr}
 use Rattle.std.proofs.shelf.Ways.{tells}
 use Rattle.refusal.specs.declared.file.FileRefusal.{FileRefusal}
 use Rattle.std.specs.declared.result.Result.{Result}
@@ -19,31 +20,33 @@ use Rattle.trace.specs.declared.record.Record.{Record}
 use Rattle.trace.specs.declared.record.Record.the-variants.{Map, Unmap, Protect, Read, Write, Wire, Unwire, Sync}
 use Rattle.trace.specs.Format.{number, fieldsOf, contentOf, contentAt, fieldsIn, fit, packed, bytesOf, encoded, window, Own}
 
--- a digit `a` below `w`, with `q` above it and `r` below the place `m`
-place : (q w a r m n : ℕ) → n ≡ (q * w + a) * m + r → a < w → r < m → n / m % w ≡ a
-place q w a r m n e h k = rw (e, digits-div (q * w + a) k, digits-mod q h)
+-- the lowest `j` of the bytes do not matter above them
+number-front : (b : List ℕ) (at : ℕ) → ((i : ℕ) → getD b i 0 < 256) → (k j : ℕ) → number b at (k + j) / 2 ^ (8 * j) ≡ number b at k
+number-front b at h k zero = rw add-zero (div-one (number b at k))
+number-front b at h k (suc j) =
+    let n = number b at (k + j) in
+    let e : 8 * suc j ≡ 8 + 8 * j = omega arith in
+    rw (add-suc, e, ← shr-shr (n * 256 + getD b (at + (k + j)) 0) 8 (8 * j), digits-div n (h (at + (k + j)))) (number-front b at h k j)
+
+digit : (b : List ℕ) (at : ℕ) → ((i : ℕ) → getD b i 0 < 256) → (k j : ℕ) → number b at (suc k + j) / 2 ^ (8 * j) % 256 ≡ getD b (at + k) 0
+digit b at h k j = ap (λ n. n % 256) (number-front b at h (suc k) j) ∙ digits-mod (number b at k) (h (at + k))
 
 -- the number of twelve bytes has these bytes
-twelve : (a0 a1 a2 a3 a4 a5 a6 a7 a8 a9 a10 a11 n : ℕ) → a0 < 256 → a1 < 256 → a2 < 256 → a3 < 256 → a4 < 256 → a5 < 256 → a6 < 256 → a7 < 256 → a8 < 256 → a9 < 256 → a10 < 256 → a11 < 256 → n ≡ (((((((((((a0 * 256 + a1) * 256 + a2) * 256 + a3) * 256 + a4) * 256 + a5) * 256 + a6) * 256 + a7) * 256 + a8) * 256 + a9) * 256 + a10) * 256 + a11) → bytesOf n ≡ a0 ∷ a1 ∷ a2 ∷ a3 ∷ a4 ∷ a5 ∷ a6 ∷ a7 ∷ a8 ∷ a9 ∷ a10 ∷ a11 ∷ []
-twelve a0 a1 a2 a3 a4 a5 a6 a7 a8 a9 a10 a11 n h0 h1 h2 h3 h4 h5 h6 h7 h8 h9 h10 h11 e =
-    let e0 : n / 2 ^ 88 % 256 ≡ a0 = place 0 256 a0 ((((((((((a1 * 256 + a2) * 256 + a3) * 256 + a4) * 256 + a5) * 256 + a6) * 256 + a7) * 256 + a8) * 256 + a9) * 256 + a10) * 256 + a11) (2 ^ 88) n (omega arith) h0 (omega arith) in
-    let e1 : n / 2 ^ 80 % 256 ≡ a1 = place a0 256 a1 (((((((((a2 * 256 + a3) * 256 + a4) * 256 + a5) * 256 + a6) * 256 + a7) * 256 + a8) * 256 + a9) * 256 + a10) * 256 + a11) (2 ^ 80) n (omega arith) h1 (omega arith) in
-    let e2 : n / 2 ^ 72 % 256 ≡ a2 = place (a0 * 256 + a1) 256 a2 ((((((((a3 * 256 + a4) * 256 + a5) * 256 + a6) * 256 + a7) * 256 + a8) * 256 + a9) * 256 + a10) * 256 + a11) (2 ^ 72) n (omega arith) h2 (omega arith) in
-    let e3 : n / 2 ^ 64 % 256 ≡ a3 = place ((a0 * 256 + a1) * 256 + a2) 256 a3 (((((((a4 * 256 + a5) * 256 + a6) * 256 + a7) * 256 + a8) * 256 + a9) * 256 + a10) * 256 + a11) (2 ^ 64) n (omega arith) h3 (omega arith) in
-    let e4 : n / 2 ^ 56 % 256 ≡ a4 = place (((a0 * 256 + a1) * 256 + a2) * 256 + a3) 256 a4 ((((((a5 * 256 + a6) * 256 + a7) * 256 + a8) * 256 + a9) * 256 + a10) * 256 + a11) (2 ^ 56) n (omega arith) h4 (omega arith) in
-    let e5 : n / 2 ^ 48 % 256 ≡ a5 = place ((((a0 * 256 + a1) * 256 + a2) * 256 + a3) * 256 + a4) 256 a5 (((((a6 * 256 + a7) * 256 + a8) * 256 + a9) * 256 + a10) * 256 + a11) (2 ^ 48) n (omega arith) h5 (omega arith) in
-    let e6 : n / 2 ^ 40 % 256 ≡ a6 = place (((((a0 * 256 + a1) * 256 + a2) * 256 + a3) * 256 + a4) * 256 + a5) 256 a6 ((((a7 * 256 + a8) * 256 + a9) * 256 + a10) * 256 + a11) (2 ^ 40) n (omega arith) h6 (omega arith) in
-    let e7 : n / 2 ^ 32 % 256 ≡ a7 = place ((((((a0 * 256 + a1) * 256 + a2) * 256 + a3) * 256 + a4) * 256 + a5) * 256 + a6) 256 a7 (((a8 * 256 + a9) * 256 + a10) * 256 + a11) (2 ^ 32) n (omega arith) h7 (omega arith) in
-    let e8 : n / 2 ^ 24 % 256 ≡ a8 = place (((((((a0 * 256 + a1) * 256 + a2) * 256 + a3) * 256 + a4) * 256 + a5) * 256 + a6) * 256 + a7) 256 a8 ((a9 * 256 + a10) * 256 + a11) (2 ^ 24) n (omega arith) h8 (omega arith) in
-    let e9 : n / 2 ^ 16 % 256 ≡ a9 = place ((((((((a0 * 256 + a1) * 256 + a2) * 256 + a3) * 256 + a4) * 256 + a5) * 256 + a6) * 256 + a7) * 256 + a8) 256 a9 (a10 * 256 + a11) (2 ^ 16) n (omega arith) h9 (omega arith) in
-    let e10 : n / 2 ^ 8 % 256 ≡ a10 = place (((((((((a0 * 256 + a1) * 256 + a2) * 256 + a3) * 256 + a4) * 256 + a5) * 256 + a6) * 256 + a7) * 256 + a8) * 256 + a9) 256 a10 a11 (2 ^ 8) n (omega arith) h10 (omega arith) in
-    let e11 : n / 2 ^ 0 % 256 ≡ a11 = place ((((((((((a0 * 256 + a1) * 256 + a2) * 256 + a3) * 256 + a4) * 256 + a5) * 256 + a6) * 256 + a7) * 256 + a8) * 256 + a9) * 256 + a10) 256 a11 0 (2 ^ 0) n (omega arith) h11 (omega arith) in
-    cc
-
 pub number-bytes : (b : List ℕ) (at : ℕ) → ((i : ℕ) → getD b i 0 < 256) → bytesOf (number b at 12) ≡ window b at
 number-bytes b at h =
-    twelve _ _ _ _ _ _ _ _ _ _ _ _ (number b at 12)
-    (h (at + 0)) (h (at + 1)) (h (at + 2)) (h (at + 3)) (h (at + 4)) (h (at + 5)) (h (at + 6)) (h (at + 7)) (h (at + 8)) (h (at + 9)) (h (at + 10)) (h (at + 11)) (omega arith)
+    let e0 = digit b at h 0 11 in
+    let e1 = digit b at h 1 10 in
+    let e2 = digit b at h 2 9 in
+    let e3 = digit b at h 3 8 in
+    let e4 = digit b at h 4 7 in
+    let e5 = digit b at h 5 6 in
+    let e6 = digit b at h 6 5 in
+    let e7 = digit b at h 7 4 in
+    let e8 = digit b at h 8 3 in
+    let e9 = digit b at h 9 2 in
+    let e10 = digit b at h 10 1 in
+    let e11 = digit b at h 11 0 in
+    cc
 
 -- the bytes of a number of 96 bits spell it
 pub bytes-number : (n : ℕ) → n < 2 ^ 96 → number (bytesOf n) 0 12 ≡ n
@@ -93,15 +96,7 @@ fitting f h =
 fields-packed : (f : Fields) → Fitting f → fieldsOf (packed f) ≡ f
 fields-packed f h =
     same-fields (fieldsOf (packed f)) f
-    (place 0 (2 ^ 4) (f .operation) (f .space * 2 ^ 88 + f .page * 2 ^ 70 + f .count * 2 ^ 61 + f .object * 2 ^ 57 + f .offset * 2 ^ 49 + f .protection * 2 ^ 47 + f .zero * 2 ^ 32 + f .word) (2 ^ 92) (packed f) (omega arith) (omega arith) (omega arith))
-    (place (f .operation) (2 ^ 4) (f .space) (f .page * 2 ^ 70 + f .count * 2 ^ 61 + f .object * 2 ^ 57 + f .offset * 2 ^ 49 + f .protection * 2 ^ 47 + f .zero * 2 ^ 32 + f .word) (2 ^ 88) (packed f) (omega arith) (omega arith) (omega arith))
-    (place (f .operation * 2 ^ 4 + f .space) (2 ^ 18) (f .page) (f .count * 2 ^ 61 + f .object * 2 ^ 57 + f .offset * 2 ^ 49 + f .protection * 2 ^ 47 + f .zero * 2 ^ 32 + f .word) (2 ^ 70) (packed f) (omega arith) (omega arith) (omega arith))
-    (place (f .operation * 2 ^ 22 + f .space * 2 ^ 18 + f .page) (2 ^ 9) (f .count) (f .object * 2 ^ 57 + f .offset * 2 ^ 49 + f .protection * 2 ^ 47 + f .zero * 2 ^ 32 + f .word) (2 ^ 61) (packed f) (omega arith) (omega arith) (omega arith))
-    (place (f .operation * 2 ^ 31 + f .space * 2 ^ 27 + f .page * 2 ^ 9 + f .count) (2 ^ 4) (f .object) (f .offset * 2 ^ 49 + f .protection * 2 ^ 47 + f .zero * 2 ^ 32 + f .word) (2 ^ 57) (packed f) (omega arith) (omega arith) (omega arith))
-    (place (f .operation * 2 ^ 35 + f .space * 2 ^ 31 + f .page * 2 ^ 13 + f .count * 2 ^ 4 + f .object) (2 ^ 8) (f .offset) (f .protection * 2 ^ 47 + f .zero * 2 ^ 32 + f .word) (2 ^ 49) (packed f) (omega arith) (omega arith) (omega arith))
-    (place (f .operation * 2 ^ 43 + f .space * 2 ^ 39 + f .page * 2 ^ 21 + f .count * 2 ^ 12 + f .object * 2 ^ 8 + f .offset) (2 ^ 2) (f .protection) (f .zero * 2 ^ 32 + f .word) (2 ^ 47) (packed f) (omega arith) (omega arith) (omega arith))
-    (place (f .operation * 2 ^ 45 + f .space * 2 ^ 41 + f .page * 2 ^ 23 + f .count * 2 ^ 14 + f .object * 2 ^ 10 + f .offset * 2 ^ 2 + f .protection) (2 ^ 15) (f .zero) (f .word) (2 ^ 32) (packed f) (omega arith) (omega arith) (omega arith))
-    (omega arith)
+    (omega arith) (omega arith) (omega arith) (omega arith) (omega arith) (omega arith) (omega arith) (omega arith) (omega arith)
 
 packed-below : (f : Fields) → Fitting f → packed f < 2 ^ 96
 packed-below f h = omega arith

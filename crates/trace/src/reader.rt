@@ -1,7 +1,7 @@
 // The records of a trace file, handed out one after another.
 ghost use mathlib.Core.Path.{_≡_};
 ghost use mathlib.Core.Bool.{cond, true};
-ghost use Prim.Native.Nat.{ℕ, _+_, _-_, _/_, _%_, _<_, _≤_};
+ghost use Prim.Native.Nat.{_+_, _-_, _/_, _%_, _<_, _≤_};
 ghost use denote.Ref.{now};
 ghost use lib.Dec.{ltb};
 ghost use lib.ListN.{length};

@@ -5,7 +5,6 @@ use refusal::file::FileRefusalDebug;
 use refusal::file::FileRefusalPartialEq;
 use std::alloc::Global;
 use std::test::Fail;
-use std::test::check;
 use std::test::check_eq;
 use trace::encode::encode;
 use trace::encode::encode_frames;

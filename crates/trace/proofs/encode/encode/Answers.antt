@@ -1,9 +1,8 @@
 -- Each way out is the definition at the number that the fields give, or at none.
-use mathlib.Core.Path.{_≡_, sym, ap, _∙_}
+use mathlib.Core.Path.{sym, ap, _∙_}
 use mathlib.Core.Bool.{cond}
 use Rattle.std.specs.Options.{mapped}
 use Rattle.std.specs.declared.option.Option.the-variants.{Some, None}
-use Rattle.trace.specs.declared.fields.Fields.{Fields}
 use Rattle.trace.specs.Format.{fit, packed, bytesOf}
 use Rattle.trace.proofs.Codec.{encoded-by, encoded-back}
 use Rattle.trace.proofs.encode.encode.Needs as need

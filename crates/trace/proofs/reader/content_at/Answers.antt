@@ -1,5 +1,5 @@
 -- The bytes' number, its fields and what they spell, as the definition has them.
-use mathlib.Core.Path.{_≡_, ap, _∙_}
+use mathlib.Core.Path.{ap, _∙_}
 use native.Mathlib.Omega.{arith}
 use Rattle.trace.specs.Format.{fieldsOf, contentOf, contentAt}
 use Rattle.trace.proofs.Codec.{content-at-own}
