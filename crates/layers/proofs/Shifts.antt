@@ -62,13 +62,14 @@ fits-shifted k s p f q =
     ap (λ t. (ltb s 4 && t) && (fitsFrame f && fitsProtection q)) page
 
 pub enters-shifted : {U : Type 0} (v w : View) (k s p f q : ℕ) (wired : Bool) (r : Result U PmapRefusal) → k < 262144 → Enters v w s (shift k p) f q wired r → Enters (shifted k v) (shifted k w) s p f q wired r
-enters-shifted v w k s p f q wired (Ok x) small h =
-    (record { fits = sym (fits-shifted k s p f q) ∙ h .0 .fits; room = λ wire c. h .0 .room wire (crowded-below v k s p c) },
-     record {
-       here = h .1 .here;
-       others = λ a b n. h .1 .others a (shift k b) (λ ea eb. n ea (shift-apart k b p eb));
-       marked = h .1 .marked;
-     })
+enters-shifted v w k s p f q wired (Ok x) small h = (
+  record { fits = sym (fits-shifted k s p f q) ∙ h .0 .fits; room = λ wire c. h .0 .room wire (crowded-below v k s p c) },
+  record {
+    here = h .1 .here;
+    others = λ a b n. h .1 .others a (shift k b) (λ ea eb. n ea (shift-apart k b p eb));
+    marked = h .1 .marked;
+  },
+)
 enters-shifted v w k s p f q wired (Err Range) small h = (sym (fits-shifted k s p f q) ∙ h .0, same-shifted v w k (h .1))
 enters-shifted v w k s p f q wired (Err WiredFull) small h =
     ((sym (fits-shifted k s p f q) ∙ h .0 .0, h .0 .1, crowded-above v k s p small (h .0 .2)), same-shifted v w k (h .1))

@@ -28,12 +28,10 @@ impl<P> Offset<P> {
         ensures { λ r. ⌜ Cases r (λ o. (by < 262144) × (o .below ≡ below) × (o .by ≡ by)) (λ e. (262144 ≤ by) × (e .refusal ≡ Range) × (e .below ≡ below)) ⌝ }
     {
         if by >= PAGES {
-            return Err(
-                OffsetRefused {
-                    refusal: PmapRefusal::Range,
-                    below,
-                },
-            );
+            return Err(OffsetRefused {
+                refusal: PmapRefusal::Range,
+                below,
+            });
         }
         Ok(Offset { below, by })
     }
@@ -48,7 +46,11 @@ impl<P> Offset<P> {
     pub fn page_below(&self, page: u32) -> u32
         ensures { λ r. ⌜ r ≡ shift (now (self .entry) .by) page ⌝ }
     {
-        if page < PAGES { (page + self.by) % PAGES } else { page }
+        if page < PAGES {
+            (page + self.by) % PAGES
+        } else {
+            page
+        }
     }
 }
 
