@@ -1,0 +1,4 @@
+pub mod Search
+pub mod Holding
+pub mod Calls
+pub mod Wired
