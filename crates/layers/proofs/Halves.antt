@@ -1,7 +1,7 @@
 -- What both halves of a replica did is what the replica did, and the halves stay twins. Assumes nothing.
 use mathlib.Core.Path.{_≡_, refl, sym, ap, subst, _∙_, fun-ext}
 use mathlib.Core.Logic.{_⊎_, inl, inr, ⊎-elim}
-use mathlib.Core.Bool.{Bool, true, false, cond, _&&_, _||_}
+use mathlib.Core.Bool.{Bool, true, false, _&&_, _||_}
 use Prim.Native.Nat.{ℕ, _%_}
 use native.Mathlib.Omega.{arith}
 use lib.Dec.{eqb}
@@ -16,7 +16,7 @@ use Rattle.refusal.specs.declared.pmap.PmapRefusal.{PmapRefusal}
 use Rattle.refusal.specs.declared.pmap.PmapRefusal.the-variants.{Range, WiredFull}
 use Rattle.pmap.specs.declared.access.Access.{Access}
 use Rattle.pmap.specs.declared.access.Access.the-variants.{Hit, Miss}
-use Rattle.pmap.specs.Meaning.{View, Mapping, isWired, Stays, Elsewhere, Same, Put, PutForgetting, Crowded, EnterPasses, EnterRefused, Enters, Lowers, lowered, Unwired, Unwires, allows, answered, marked, Accessed, Accesses}
+use Rattle.pmap.specs.Meaning.{View, Mapping, isWired, Stays, Elsewhere, Put, PutForgetting, Crowded, EnterPasses, EnterRefused, Enters, Lowers, lowered, Unwired, Unwires, allows, answered, marked, Accessed, Accesses}
 use Rattle.pmap.specs.Ranges.{fitsPlace, fitsEntry}
 use Rattle.layers.specs.declared.replica.Replica.{Replica}
 use Rattle.layers.specs.Agreement.{sameMark, alike, agreed, replica, Twin, Twins, ToOne}

@@ -3,6 +3,7 @@ ghost use mathlib.Core.Path.{_≡_};
 ghost use Prim.Native.Nat.{_<_, _≤_};
 ghost use Rattle.std.specs.Results.{Cases};
 ghost use Rattle.refusal.specs.declared.pmap.PmapRefusal.the-variants.{Range};
+ghost use Rattle.pmap.specs.Meaning.{Cleared};
 ghost use Rattle.layers.specs.Shift.{shift, shifted};
 use pmap::access::Access;
 use pmap::interface::Pmap;
@@ -59,7 +60,11 @@ pub impl<P: Pmap> Pmap for Offset<P> as OffsetPmap {
 
     ghost kept = { λ s. P·Pmap .kept (s .below) };
 
-    fn clear(&mut self) {
+    fn clear(&mut self)
+        ensures meaning { λ _. ⌜ Cleared (shifted (now (self .exit) .by) (P·Pmap .view (now (self .exit) .below))) ⌝ }
+        ensures kept { λ _. ⌜ P·Pmap .kept (now (self .exit) .below) ⌝ }
+        ensures by { λ _. ⌜ now (self .exit) .by ≡ now (self .entry) .by ⌝ }
+    {
         self.below.clear();
     }
 

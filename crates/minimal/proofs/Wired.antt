@@ -1,13 +1,13 @@
 -- Empty slots, and whether eight other places are wired. Assumes nothing.
 use mathlib.Core.Path.{_≡_, refl, sym, ap, subst, _∙_, fun-ext}
-use mathlib.Core.Logic.{_⊎_, inl, inr, ⊎-elim}
+use mathlib.Core.Logic.{_⊎_, ⊎-elim}
 use mathlib.Core.Bool.{Bool, true, false, cond, not, _||_}
 use mathlib.Core.List.{List}
 use Prim.Native.Nat.{ℕ, zero, suc, _<_, _≤_}
 use native.Mathlib.Omega.{arith}
 use lib.Dec.{eqb, ltb}
-use lib.ListN.{length, getD, replicate}
-use Rattle.std.proofs.shelf.Tests.{cases-eq, cases-lt, cond-true, cond-false, and-from, eq-eqb, both-ways, ltb-true, lt-ltb, le-ltb, or-left, or-right}
+use lib.ListN.{getD, replicate}
+use Rattle.std.proofs.shelf.Tests.{cases-lt, cond-true, cond-false, and-from, eq-eqb, both-ways, ltb-true, lt-ltb, le-ltb, or-left, or-right}
 use Rattle.std.specs.declared.option.Option.{Option}
 use Rattle.std.specs.declared.option.Option.the-variants.{Some, None}
 use Rattle.pmap.specs.Meaning.{isWired, Cleared, Crowded}

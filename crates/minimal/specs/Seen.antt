@@ -6,7 +6,7 @@ use Rattle.std.specs.declared.option.Option.the-variants.{Some, None}
 use Rattle.pmap.specs.Meaning.{View}
 use Rattle.minimal.specs.declared.entry.Entry.{Entry}
 use Rattle.minimal.specs.declared.table.Minimal.{Minimal}
-use Rattle.minimal.specs.Entries.{found, shown, OnlyWired}
+use Rattle.minimal.specs.Entries.{shown, OnlyWired}
 
 abbrev pub seen : Minimal → View
 seen t = shown (t .slots) (t .marks)

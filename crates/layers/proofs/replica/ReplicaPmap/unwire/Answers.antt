@@ -1,4 +1,4 @@
-use mathlib.Core.Path.{_≡_, sym, subst, _∙_}
+use mathlib.Core.Path.{sym, subst, _∙_}
 use Rattle.pmap.specs.Meaning.{Unwires}
 use Rattle.layers.specs.Agreement.{ToHolders}
 use Rattle.layers.proofs.Halves.{unwire-lifts}

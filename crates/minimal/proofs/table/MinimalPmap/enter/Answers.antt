@@ -1,5 +1,4 @@
 use borrow.Author.Needs.{needs}
-use Rattle.std.proofs.shelf.Tests.{ltb-true}
 use Rattle.std.proofs.shelf.Ways.{tells}
 use native.Mathlib.Omega.{arith}
 use Rattle.minimal.proofs.Wired.{crowded, not-crowded, room-wired}
