@@ -5,9 +5,9 @@ use mathlib.Core.Bool.{Bool, true, false, _&&_, _||_}
 use Prim.Native.Nat.{ℕ, _%_}
 use native.Mathlib.Omega.{arith}
 use lib.Dec.{eqb}
-use Rattle.std.proofs.shelf.Tests.{both-ways, eq-eqb, ne-eqb, cases-eq, cases-cond, cond-true}
-use Rattle.std.proofs.shelf.Ways.{tells}
-use Rattle.std.specs.Orderings.{When}
+use Rattle.std.proofs.shelf.Tests.{both-ways, cases-bool, cases-eq, cases-cond, cond-true}
+use Rattle.std.proofs.shelf.Ways.{tells, when-true, when-false}
+use Rattle.std.specs.Options.{isSome}
 use Rattle.std.specs.declared.option.Option.{Option}
 use Rattle.std.specs.declared.option.Option.the-variants.{Some, None}
 use Rattle.std.specs.declared.result.Result.{Result}
@@ -19,7 +19,7 @@ use Rattle.pmap.specs.declared.access.Access.the-variants.{Hit, Miss}
 use Rattle.pmap.specs.Meaning.{View, Mapping, isWired, Stays, Elsewhere, Put, PutForgetting, Crowded, EnterPasses, EnterRefused, Enters, Lowers, lowered, Unwired, Unwires, allows, answered, marked, Accessed, Accesses}
 use Rattle.pmap.specs.Ranges.{fitsPlace, fitsEntry}
 use Rattle.layers.specs.declared.replica.Replica.{Replica}
-use Rattle.layers.specs.Agreement.{sameMark, alike, agreed, replica, Twin, Twins, ToOne}
+use Rattle.layers.specs.Agreement.{joint, ByParity, sameMark, alike, agreed, replica, Twin, Twins}
 
 -- at one place
 
@@ -206,8 +206,8 @@ unwired-at : (v v′ : View) (s p : ℕ) (o : Option Mapping) (m : Mapping) → 
 unwired-at v v′ s p None m e h = let z : _≡_ {A = ℕ} 0 1 = cc in absurd (omega arith)
 unwired-at v v′ s p (Some n) m e h = let same : n ≡ m = cc in subst (λ k. PutForgetting v v′ s p (Some (k .0, k .1, false)) (v .modified)) same h
 
-pub unwire-lifts : {U : Type 0} (v v′ w w′ : View) (s p : ℕ) (m : Mapping) → Twins v w → replica v w .held s p ≡ Some m → fitsPlace s p ≡ true → Unwired v v′ s p (v .held s p) → (r : Result U PmapRefusal) → Unwires w w′ s p r → Lifts v v′ w w′ (λ a b. Unwires a b s p r)
-unwire-lifts v v′ w w′ s p m twins held fits one (Ok u) h =
+unwire-at : {U : Type 0} (v v′ w w′ : View) (s p : ℕ) (m : Mapping) → Twins v w → replica v w .held s p ≡ Some m → fitsPlace s p ≡ true → Unwired v v′ s p (v .held s p) → (r : Result U PmapRefusal) → Unwires w w′ s p r → Lifts v v′ w w′ (λ a b. Unwires a b s p r)
+unwire-at v v′ w w′ s p m twins held fits one (Ok u) h =
     let x : Option Mapping = Some (m .0, m .1, false) in
     let put = unwired-at v v′ s p (v .held s p) m (agreed-first (v .held s p) (w .held s p) m held) one in
     let place = unwired-at w w′ s p (w .held s p) m (agreed-second (v .held s p) (w .held s p) m (twins s p) held) (h .1) in
@@ -218,7 +218,14 @@ unwire-lifts v v′ w w′ s p m twins held fits one (Ok u) h =
       second = h;
       twins = forget-twins v v′ w w′ s p x x (v .modified) (w .modified) twins put place refl;
     }
-unwire-lifts v v′ w w′ s p m twins held fits one (Err e) h = absurd (both-ways (fitsPlace s p) (h .1) fits)
+unwire-at v v′ w w′ s p m twins held fits one (Err e) h = absurd (both-ways (fitsPlace s p) (h .1) fits)
+
+some-value : (o : Option Mapping) → isSome o ≡ true → (m : Mapping) × (o ≡ Some m)
+some-value None h = absurd (both-ways false refl h)
+some-value (Some m) h = (m, refl)
+
+pub unwire-lifts : {U : Type 0} (v v′ w w′ : View) (s p : ℕ) → Twins v w → isSome (replica v w .held s p) ≡ true → fitsPlace s p ≡ true → Unwired v v′ s p (v .held s p) → (r : Result U PmapRefusal) → Unwires w w′ s p r → Lifts v v′ w w′ (λ a b. Unwires a b s p r)
+unwire-lifts v v′ w w′ s p twins some = let m = some-value (replica v w .held s p) some in unwire-at v v′ w w′ s p (m .0) twins (m .1)
 
 -- access
 
@@ -272,21 +279,21 @@ module _ (v w : View) (s p : ℕ) (write : Bool) (m : Mapping) (r : Result Acces
         forget-twins v v w w′ s p (v .held s p) (w .held s p) (v .modified) marks twins (as-it-was v s p) (served .1) (twins s p),
       )
 
--- a hit went to one half
+-- an access that both halves can serve, by the parity of the space
+module _ {P Q : Type 0} (one : P → View) (two : Q → View) (r r′ : Replica P Q) (s p : ℕ) (write : Bool) (m : Mapping) (a : Result Access PmapRefusal) (twins : Twins (one (r .first)) (two (r .second))) (held : joint one two r .held s p ≡ Some m) (may : allows (m .1) write ≡ true) (fits : fitsPlace s p ≡ true) (served : ByParity one two r r′ s (λ v w. Accesses v w s p write a)) where
+  abbrev Lifted : View → View → Type 0
+  Lifted v w = (a ≡ Ok (Hit (m .0))) × Accesses (joint one two r) (replica v w) s p write a × Twins v w
 
-when-so : (b : Bool) (A B : Type 0) → b ≡ true → A → When b A B
-when-so true A B e a = a
-when-so false A B e a = absurd (both-ways true (sym e) refl)
+  abbrev Half : View → View → Type 0
+  Half v w = Accesses v w s p write a
 
-when-not : (b : Bool) (A B : Type 0) → b ≡ false → B → When b A B
-when-not true A B e a = absurd (both-ways true e refl)
-when-not false A B e a = a
-
-module _ {P Q : Type 0} (one : P → View) (two : Q → View) (r r′ : Replica P Q) (space f : ℕ) (a : Result Access PmapRefusal) (Call : View → View → Type 0) (is : a ≡ Ok (Hit f)) where
-  pub to-first : space % 2 ≡ 0 → Call (one (r .first)) (one (r′ .first)) → r′ .second ≡ r .second → ToOne one two r r′ space a Call
-  to-first even call same =
-      subst (λ z. ToOne one two r r′ space z Call) (sym is) (when-so (eqb (space % 2) 0) _ _ (eq-eqb (space % 2) 0 even) (call, same))
-
-  pub to-second : (space % 2 ≡ 0 → ⊥) → Call (two (r .second)) (two (r′ .second)) → r′ .first ≡ r .first → ToOne one two r r′ space a Call
-  to-second odd call same =
-      subst (λ z. ToOne one two r r′ space z Call) (sym is) (when-not (eqb (space % 2) 0) _ _ (ne-eqb (space % 2) 0 odd) (same, call))
+  pub access-lifts : Lifted (one (r′ .first)) (two (r′ .second))
+  access-lifts =
+      ⊎-elim
+      (λ even.
+      let h = when-true (Half (one (r .first)) (one (r′ .first)) × (r′ .second ≡ r .second)) (Half (two (r .second)) (two (r′ .second)) × (r′ .first ≡ r .first)) even served in
+      subst (λ q. Lifted (one (r′ .first)) (two q)) (sym (h .1)) (by-first (one (r .first)) (two (r .second)) s p write m a twins held may fits (one (r′ .first)) (h .0)))
+      (λ odd.
+      let h = when-false (Half (one (r .first)) (one (r′ .first)) × (r′ .second ≡ r .second)) (Half (two (r .second)) (two (r′ .second)) × (r′ .first ≡ r .first)) odd served in
+      subst (λ q. Lifted (one q) (two (r′ .second))) (sym (h .1)) (by-second (one (r .first)) (two (r .second)) s p write m a twins held may fits (two (r′ .second)) (h .0)))
+      (cases-bool (eqb (s % 2) 0))

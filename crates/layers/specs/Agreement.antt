@@ -64,11 +64,15 @@ abbrev pub ToHolders : {P Q : Type 0} → (P → View) → (Q → View) → Repl
 ToHolders one two r r′ None Call = r′ ≡ r
 ToHolders one two r r′ (Some m) Call = ToBoth one two r r′ Call
 
--- an access: a hit goes to the first half for an even space and to the second for an odd one; any other goes to neither
-abbrev pub ToOne : {P Q : Type 0} → (P → View) → (Q → View) → Replica P Q → Replica P Q → ℕ → Result Access PmapRefusal → (View → View → Type 0) → Type 0
-ToOne one two r r′ space (Ok (Hit f)) Call =
+-- a call that goes to the first half for an even space and to the second for an odd one
+abbrev pub ByParity : {P Q : Type 0} → (P → View) → (Q → View) → Replica P Q → Replica P Q → ℕ → (View → View → Type 0) → Type 0
+ByParity one two r r′ space Call =
     When (eqb (space % 2) 0)
     (Call (one (r .first)) (one (r′ .first)) × (r′ .second ≡ r .second))
-    ((r′ .first ≡ r .first) × Call (two (r .second)) (two (r′ .second)))
+    (Call (two (r .second)) (two (r′ .second)) × (r′ .first ≡ r .first))
+
+-- an access: a hit goes to one half, and any other to neither
+abbrev pub ToOne : {P Q : Type 0} → (P → View) → (Q → View) → Replica P Q → Replica P Q → ℕ → Result Access PmapRefusal → (View → View → Type 0) → Type 0
+ToOne one two r r′ space (Ok (Hit f)) Call = ByParity one two r r′ space Call
 ToOne one two r r′ space (Ok Miss) Call = r′ ≡ r
 ToOne one two r r′ space (Err e) Call = r′ ≡ r

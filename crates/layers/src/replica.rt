@@ -1,7 +1,9 @@
 // Two pmaps of any make, kept alike: what both hold is held.
 ghost use mathlib.Core.Path.{_≡_};
+ghost use mathlib.Core.Bool.{true};
+ghost use Rattle.std.specs.Options.{isSome};
 ghost use Rattle.pmap.specs.Meaning.{Cleared, Enters, Removes, Lowers, Drops, Unwires, Accesses, Unmarks};
-ghost use Rattle.layers.specs.Agreement.{joint, Kept, Jointly, ToBoth, ToHolders, ToOne};
+ghost use Rattle.layers.specs.Agreement.{joint, Kept, Jointly, ToBoth, ToHolders, ByParity, ToOne};
 use pmap::access::Access;
 use pmap::interface::Pmap;
 use pmap::range::allows;
@@ -15,14 +17,14 @@ pub struct Replica<P: Pmap, Q: Pmap> {
 
 impl<P: Pmap, Q: Pmap> Replica<P, Q> {
     // Clears both pmaps and owns them.
-    pub fn new(mut first: P, mut second: Q) -> Replica<P, Q>
+    pub fn new(first: P, second: Q) -> Replica<P, Q>
         ensures meaning { λ r. ⌜ Cleared (joint (P·Pmap .view) (Q·Pmap .view) r) ⌝ }
         ensures kept { λ r. ⌜ Kept (P·Pmap .view) (Q·Pmap .view) (P·Pmap .kept) (Q·Pmap .kept) r ⌝ }
         ensures halves { λ r. ⌜ Cleared (P·Pmap .view (r .first)) × Cleared (Q·Pmap .view (r .second)) ⌝ }
     {
-        first.clear();
-        second.clear();
-        Replica { first, second }
+        let mut replica = Replica { first, second };
+        replica.clear();
+        replica
     }
 
     pub fn first(&self) -> &P
@@ -35,6 +37,31 @@ impl<P: Pmap, Q: Pmap> Replica<P, Q> {
         ensures { λ r. ⌜ now r ≡ now (self .entry) .second ⌝ }
     {
         &self.second
+    }
+
+    // An unwire of a place that both halves hold.
+    fn unwire_both(&mut self, space: u8, page: u32) -> Result<(), PmapRefusal>
+        requires kept { ⌜ Kept (P·Pmap .view) (Q·Pmap .view) (P·Pmap .kept) (Q·Pmap .kept) (now self) ⌝ }
+        requires held { ⌜ isSome (joint (P·Pmap .view) (Q·Pmap .view) (now self) .held space page) ≡ true ⌝ }
+        ensures meaning { λ r. ⌜ Jointly (P·Pmap .view) (Q·Pmap .view) (now (self .entry)) (now (self .exit)) (λ v w. Unwires v w space page r) ⌝ }
+        ensures kept { λ _. ⌜ Kept (P·Pmap .view) (Q·Pmap .view) (P·Pmap .kept) (Q·Pmap .kept) (now (self .exit)) ⌝ }
+        ensures halves { λ r. ⌜ ToBoth (P·Pmap .view) (Q·Pmap .view) (now (self .entry)) (now (self .exit)) (λ v w. Unwires v w space page r) ⌝ }
+    {
+        self.first.unwire(space, page)?;
+        self.second.unwire(space, page)
+    }
+
+    // An access by the first half for an even space, by the second for an odd one.
+    fn serve(&mut self, space: u8, page: u32, write: bool) -> Result<Access, PmapRefusal>
+        requires { ⌜ Kept (P·Pmap .view) (Q·Pmap .view) (P·Pmap .kept) (Q·Pmap .kept) (now self) ⌝ }
+        ensures kept { λ _. ⌜ P·Pmap .kept (now (self .exit) .first) × Q·Pmap .kept (now (self .exit) .second) ⌝ }
+        ensures halves { λ r. ⌜ ByParity (P·Pmap .view) (Q·Pmap .view) (now (self .entry)) (now (self .exit)) space (λ v w. Accesses v w space page write r) ⌝ }
+    {
+        if space % 2 == 0 {
+            self.first.access(space, page, write)
+        } else {
+            self.second.access(space, page, write)
+        }
     }
 }
 
@@ -109,8 +136,7 @@ pub impl<P: Pmap, Q: Pmap> Pmap for Replica<P, Q> as ReplicaPmap {
         let Some(_) = self.find(space, page)? else {
             return Ok(());
         };
-        self.first.unwire(space, page)?;
-        self.second.unwire(space, page)
+        self.unwire_both(space, page)
     }
 
     fn access(&mut self, space: u8, page: u32, write: bool) -> Result<Access, PmapRefusal>
@@ -125,11 +151,7 @@ pub impl<P: Pmap, Q: Pmap> Pmap for Replica<P, Q> as ReplicaPmap {
         if !allows(protection, write) {
             return Ok(Access::Miss);
         }
-        if space % 2 == 0 {
-            self.first.access(space, page, write)
-        } else {
-            self.second.access(space, page, write)
-        }
+        self.serve(space, page, write)
     }
 
     fn find(&self, space: u8, page: u32) -> Result<Option<(u16, u8, bool)>, PmapRefusal> {
