@@ -2,6 +2,7 @@
 ghost use mathlib.Core.Path.{_≡_};
 ghost use mathlib.Core.Bool.{cond};
 ghost use Prim.Native.Nat.{_<_};
+ghost use Rattle.std.specs.Options.{Cases};
 ghost use Rattle.x86.specs.Words.{present, writable, dirty, wired as isWired, frameOf, protectionOf, leafWord, pointer as pointerTo, tableOf, pointsTo, touched, dirtied, cleaned, readOnly, unwired, serves as lets, maps as mapsTo};
 
 pub const PRESENT: u64 = 1;
@@ -79,7 +80,8 @@ pub fn pointer(table: usize) -> u64
 
 // The table that a word points to, if it is present and names one.
 pub fn table_below(word: u64) -> Option<usize>
-    ensures { λ r. ⌜ r ≡ tableOf word ⌝ }
+    ensures is { λ r. ⌜ r ≡ tableOf word ⌝ }
+    ensures bound { λ r. ⌜ Cases r (Unit {0}) (λ t. t < 16) ⌝ }
 {
     let page = word >> 12;
     if is_present(word) && FIRST_TABLE <= page && page < FIRST_TABLE + TABLES {
