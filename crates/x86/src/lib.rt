@@ -1,4 +1,5 @@
 // The x86-64 board: page tables of four levels in 8,192 words, walked as the hardware walks them.
-// specs/ says, call by call, what the answer is and what every word, mark and the counter are afterwards.
+// specs/State.antt says what the board holds after each call: every word, every mark and the counter.
+pub mod board;
 pub mod walk;
 pub mod word;
