@@ -107,11 +107,17 @@ abbrev pub modifiedIn : State → ℕ → Bool
 modifiedIn st f = getD (st .marks) f false || anyDirty (st .words) isLeaf f 8192
 
 -- clear-modified: the mark and those bits go off
-unfoldable pub unmarked : State → ℕ → State
-unmarked st f = record {
-  words = map (λ k. cond (mapping st f k) (cleaned (wordAt st k)) (wordAt st k)) (counting 0 8192);
-  marks = set (st .marks) f false;
-  next = st .next }
+abbrev pub unmarkedWord : State → ℕ → ℕ → ℕ
+unmarkedWord st f k = cond (mapping st f k) (cleaned (wordAt st k)) (wordAt st k)
+
+unfoldable pub bitsOff : State → ℕ → State
+bitsOff st f = record { words = map (unmarkedWord st f) (counting 0 8192); marks = st .marks; next = st .next }
+
+abbrev pub markOff : State → ℕ → State
+markOff st f = record { words = st .words; marks = set (st .marks) f false; next = st .next }
+
+abbrev pub unmarked : State → ℕ → State
+unmarked st f = markOff (bitsOff st f) f
 
 -- some of the n words from a position on is wired
 unfoldable pub anyWired : List ℕ → ℕ → ℕ → Bool
@@ -134,9 +140,12 @@ abbrev pub freeLeaf : State → ℕ
 freeLeaf st = freeFrom (st .words) (st .next) 9
 
 -- the directory words that point to a leaf are emptied
+abbrev pub unlinkedWord : State → ℕ → ℕ → ℕ
+unlinkedWord st t k = cond (isDirectory k && pointsTo (wordAt st k) t) 0 (wordAt st k)
+
 unfoldable pub unlinked : State → ℕ → State
 unlinked st t = record {
-  words = map (λ k. cond (isDirectory k && pointsTo (wordAt st k) t) 0 (wordAt st k)) (counting 0 8192);
+  words = map (unlinkedWord st t) (counting 0 8192);
   marks = st .marks;
   next = st .next }
 

@@ -3,10 +3,19 @@ ghost use mathlib.Core.Path.{_≡_};
 ghost use Prim.Native.Nat.{_≤_};
 ghost use Rattle.std.specs.Of.Vec.{vec-len};
 mod cells;
+mod frames;
+mod leaves;
 
 pub const WORDS: usize = 8192;
 
 pub const FRAMES: usize = 256;
+
+// The first word of the page directories, and of the leaves.
+const DIRECTORIES: usize = 2 * 512;
+
+const LEAVES: usize = 6 * 512;
+
+const LEAF_COUNT: usize = 10;
 
 #[derive(Drop)]
 pub struct Board {
