@@ -179,8 +179,11 @@ abbrev pub isOwn : Option Walk → ℕ → Bool
 isOwn None k = false
 isOwn (Some w) k = eqb k (w .leaf)
 
+abbrev pub wiredOther : State → Option Walk → ℕ → Bool
+wiredOther st own k = wired (wordAt st k) && not (isOwn own k)
+
 abbrev pub wiredBeside : State → Option Walk → ℕ → Bool
-wiredBeside st own k = isLeaf k && (wired (wordAt st k) && not (isOwn own k))
+wiredBeside st own k = isLeaf k && wiredOther st own k
 
 -- eight other places are wired
 abbrev pub crowded : State → ℕ → ℕ → Bool

@@ -5,6 +5,8 @@ ghost use Rattle.std.specs.Of.Vec.{vec-len};
 mod cells;
 mod frames;
 mod leaves;
+mod places;
+mod wirings;
 
 pub const WORDS: usize = 8192;
 

@@ -39,7 +39,7 @@ impl Board {
 
     // The first leaf, from the counter on, without a wired mapping.
     // After nine leaves with one, the tenth is taken unseen: with at most eight mappings wired it is never come to.
-    fn free_leaf(&self) -> usize
+    pub(super) fn free_leaf(&self) -> usize
         ensures is { λ r. ⌜ r ≡ freeLeaf (state (now (self .entry))) ⌝ }
         ensures low { λ r. ⌜ 6 ≤ r ⌝ }
         ensures high { λ r. ⌜ r ≤ 15 ⌝ }
@@ -91,5 +91,15 @@ impl Board {
     {
         self.words[at] = pointer(leaf);
         self.next = leaf_after(leaf);
+    }
+
+    // Takes a leaf for a place: forgets all in it and the directory word that pointed to it, and points the place's to it.
+    pub(super) fn take_leaf(&mut self, leaf: usize, space: u8, page: u32)
+        requires { ⌜ 6 ≤ leaf ⌝ ∗ ⌜ leaf ≤ 15 ⌝ ∗ ⌜ space < 4 ⌝ ∗ ⌜ page < 262144 ⌝ }
+        ensures { λ _. ⌜ state (now (self .exit)) ≡ taken (state (now (self .entry))) leaf space page ⌝ }
+    {
+        self.forget_leaf(leaf);
+        self.unlink(leaf);
+        self.link(leaf, 512 * (2 + usize::from(space)) + page as usize / 512);
     }
 }
