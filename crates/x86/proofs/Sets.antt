@@ -12,6 +12,7 @@ use Rattle.std.proofs.shelf.Tests.{cond-true, cond-false, and-left, and-from, o
 use Rattle.std.proofs.shelf.Ways.{decides-below-or}
 use Rattle.std.proofs.shelf.Lists.{getD-past}
 use mathlib.Core.Logic.{⊎-elim}
+use Rattle.pmap.specs.Tally.{tally}
 use Rattle.x86.specs.Words.{present, wired, maps, dirtyIn, pointsTo, cleaned}
 use Rattle.x86.specs.State.{State, wordAt, anyDirty, isLeaf, isDirectory, mapping, inLeaf, anyWired, holdsWired, leafAfter, freeFrom, unlinkedWord, unmarkedWord}
 use Rattle.x86.proofs.Sweeps.{any-dirty}
@@ -105,3 +106,9 @@ module _ (words : List ℕ) (t : ℕ) where
   pub free-last : (n : ℕ) → n ≡ 0 → freeFrom words t n ≡ t
   unfolding freeFrom
   free-last n q = rw q
+
+-- none of the numbers below n passes
+pub tally-zero : (test : ℕ → Bool) (n : ℕ) → ((k : ℕ) → k < n → test k ≡ false) → tally test n ≡ 0
+unfolding tally
+tally-zero test zero none = refl
+tally-zero test (suc n) none = rw (none n (omega arith)) (omega (arith, tally-zero test n (λ k h. none k (omega arith))))

@@ -193,5 +193,8 @@ crowded st s p = leb 8 (tally (wiredBeside st (walk (st .words) (linear s p))) 8
 unfoldable pub startWord : ℕ → ℕ
 startWord k = cond (eqb k 0) (pointer 1) (cond (leb 512 k && ltb k 516) (pointer (k - 510)) 0)
 
+unfoldable pub wiped : State → State
+wiped st = record { words = map startWord (counting 0 8192); marks = st .marks; next = st .next }
+
 unfoldable pub started : State
 started = record { words = map startWord (counting 0 8192); marks = replicate 256 false; next = 6 }
