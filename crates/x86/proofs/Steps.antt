@@ -25,6 +25,6 @@ module _ (words : List ℕ) (v root : ℕ) (at-root : root ≡ position 0 v 1342
       walk-no-leaf h = rw (← at-root, ← to-entry, ← at-entry, ← to-directory, ← at-directory, ← h)
 
       pub walk-leaf : (t leaf : ℕ) → Some t ≡ tableOf (getD words directory 0) → leaf ≡ position t v 1
-        → walk words v ≡ Some (record { root = root; entry = entry; directory = directory; leaf = leaf })
+          → walk words v ≡ Some (record { root = root; entry = entry; directory = directory; leaf = leaf })
       unfolding walk
       walk-leaf t leaf h e = rw (← at-root, ← to-entry, ← at-entry, ← to-directory, ← at-directory, ← h, ← e)

@@ -5,16 +5,16 @@ use mathlib.Core.List.{List, map}
 use mathlib.Core.Bool.{Bool, true, false, cond, _&&_, _||_}
 use Prim.Native.Nat.{ℕ, _+_, _<_, _≤_}
 use native.Mathlib.Omega.{arith}
-use lib.ListN.{length, getD, set}
+use lib.ListN.{length, getD, set, replicate}
 use lib.Dec.{eqb, ltb}
 use Rattle.std.specs.Iters.{counting}
 use Rattle.std.specs.Orderings.{Decides}
 use Rattle.std.proofs.shelf.Tests.{cases-eq, cases-lt, cases-bool, cond-true, cond-false, lt-ltb, le-ltb, ltb-true, and-parts, and-from, and-left, eq-eqb, ne-eqb, or-cases, or-left, or-right}
 use Rattle.std.proofs.shelf.Ways.{same-from-decides, decides-below-or}
 use Rattle.std.proofs.shelf.Counted.{fill-by-all}
-use Rattle.std.proofs.shelf.Lists.{getD-set-same, getD-set-other}
+use Rattle.std.proofs.shelf.Lists.{getD-set-same, getD-set-other, getD-replicate, length-replicate, ext-getD}
 use Rattle.x86.specs.Words.{frameOf, dirty, dirtyIn}
-use Rattle.x86.specs.State.{State, wordAt, written, merged, forgotten, anyDirty, emptied}
+use Rattle.x86.specs.State.{State, wordAt, written, merged, forgotten, anyDirty, emptied, markOff, marksOff, wiped, started}
 
 getD-set-here : {X : Type 0} (l : List X) (i k : ℕ) (a d : X) → k ≡ i → i < length l → getD (set l i a) k d ≡ a
 getD-set-here l i k a d e h = rw e (getD-set-same l i a d h)
@@ -46,7 +46,8 @@ module _ (st : State) (after : ℕ → ℕ) where
           (cases-eq k i);
       rest = λ k le. getD-set-other (u .words) i k w 0 (omega arith) ∙ r .rest k (omega arith);
       marks = r .marks;
-      next = r .next }
+      next = r .next;
+    }
 
     pub rewriting-miss : after i ≡ wordAt st i → Rewriting st u after (i + 1)
     rewriting-miss e = record {
@@ -56,7 +57,8 @@ module _ (st : State) (after : ℕ → ℕ) where
           (cases-eq k i);
       rest = λ k le. r .rest k (omega arith);
       marks = r .marks;
-      next = r .next }
+      next = r .next;
+    }
 
     pub rewriting-all : length (u .words) ≡ 8192 → ((k : ℕ) → i ≤ k → k < 8192 → after k ≡ wordAt st k) → u .words ≡ map after (counting 0 8192)
     rewriting-all n same = fill-by-all after (u .words) 8192 0 n (λ k h. ⊎-elim
@@ -82,15 +84,17 @@ pub record Emptying (st u : State) (gone : ℕ → Bool) : Type 0 where
 
 -- sets that agree
 pub any-same : (words : List ℕ) (p q : ℕ → Bool) (f n : ℕ) → ((k : ℕ) → p k ≡ q k) → anyDirty words p f n ≡ anyDirty words q f n
-any-same words p q f n same = same-from-decides (anyDirty words p f n) (anyDirty words q f n) (any-dirty words p f n)
-    ( (λ e. let x = any-dirty words q f n .0 e in (x .0, x .1, ap (λ b. b && dirtyIn (getD words (x .0) 0) f) (same (x .0)) ∙ x .2))
-    , (λ x. any-dirty words q f n .1 (x .0, x .1, ap (λ b. b && dirtyIn (getD words (x .0) 0) f) (sym (same (x .0))) ∙ x .2)) )
+any-same words p q f n same = same-from-decides (anyDirty words p f n) (anyDirty words q f n) (any-dirty words p f n) (
+  (λ e. let x = any-dirty words q f n .0 e in (x .0, x .1, ap (λ b. b && dirtyIn (getD words (x .0) 0) f) (same (x .0)) ∙ x .2)),
+  (λ x. any-dirty words q f n .1 (x .0, x .1, ap (λ b. b && dirtyIn (getD words (x .0) 0) f) (sym (same (x .0))) ∙ x .2)),
+)
 
 pub emptying-same : (st u : State) (p q : ℕ → Bool) → ((k : ℕ) → p k ≡ q k) → Emptying st u p → Emptying st u q
 emptying-same st u p q same e = record {
   words = λ k. e .words k ∙ ap (λ b. cond b 0 (wordAt st k)) (same k);
   marks = λ f h. e .marks f h ∙ ap (λ b. getD (st .marks) f false || b) (any-same (st .words) p q f 8192 same);
-  next = e .next }
+  next = e .next;
+}
 
 or-false : (a : Bool) → (a || false) ≡ a
 or-false true = refl
@@ -110,7 +114,8 @@ pub emptying-none : (st : State) (p : ℕ → Bool) → ((k : ℕ) → p k ≡ f
 emptying-none st p none = record {
   words = λ k. sym (cond-false (p k) 0 (wordAt st k) (none k));
   marks = λ f h. sym (ap (λ b. getD (st .marks) f false || b) (any-none (st .words) p f 8192 none) ∙ or-false (getD (st .marks) f false));
-  next = refl }
+  next = refl;
+}
 
 or-assoc : (a b c : Bool) → ((a || b) || c) ≡ (a || (b || c))
 or-assoc true b c = refl
@@ -145,18 +150,19 @@ module _ (gone : ℕ → Bool) (i : ℕ) where
       (cases-eq k i)
 
 any-more : (words : List ℕ) (gone : ℕ → Bool) (f i : ℕ) → i < 8192 → gone i ≡ true
-  → anyDirty words (upTo (i + 1) gone) f 8192 ≡ (anyDirty words (upTo i gone) f 8192 || dirtyIn (getD words i 0) f)
+    → anyDirty words (upTo (i + 1) gone) f 8192 ≡ (anyDirty words (upTo i gone) f 8192 || dirtyIn (getD words i 0) f)
 any-more words gone f i h e = same-from-decides (anyDirty words (upTo (i + 1) gone) f 8192) (anyDirty words (upTo i gone) f 8192 || d)
-    (any-dirty words (upTo (i + 1) gone) f 8192)
-    ( (λ t. ⊎-elim
-        (λ (a : anyDirty words (upTo i gone) f 8192 ≡ true). let x = any-dirty words (upTo i gone) f 8192 .0 a in
+    (any-dirty words (upTo (i + 1) gone) f 8192) (
+      (λ t. ⊎-elim
+          (λ (a : anyDirty words (upTo i gone) f 8192 ≡ true). let x = any-dirty words (upTo i gone) f 8192 .0 a in
           (x .0, x .1, ap (λ b. b && dirtyIn (getD words (x .0) 0) f) (up-to-other gone i (x .0) (apart (x .0) (and-parts (upTo i gone (x .0)) _ (x .2) .0))) ∙ x .2))
-        (λ (a : d ≡ true). (i, h, and-from (upTo (i + 1) gone i) d (up-to-here gone i e) a))
-        (or-cases (anyDirty words (upTo i gone) f 8192) d t))
-    , (λ x. ⊎-elim
-        (λ (q : x .0 ≡ i). or-right (anyDirty words (upTo i gone) f 8192) d (ap (λ k. dirtyIn (getD words k 0) f) (sym q) ∙ and-parts (upTo (i + 1) gone (x .0)) _ (x .2) .1))
-        (λ (q : x .0 ≡ i → ⊥). or-left (anyDirty words (upTo i gone) f 8192) d (any-dirty words (upTo i gone) f 8192 .1 (x .0, x .1, ap (λ b. b && dirtyIn (getD words (x .0) 0) f) (sym (up-to-other gone i (x .0) q)) ∙ x .2)))
-        (cases-eq (x .0) i)) )
+          (λ (a : d ≡ true). (i, h, and-from (upTo (i + 1) gone i) d (up-to-here gone i e) a))
+          (or-cases (anyDirty words (upTo i gone) f 8192) d t)),
+      (λ x. ⊎-elim
+          (λ (q : x .0 ≡ i). or-right (anyDirty words (upTo i gone) f 8192) d (ap (λ k. dirtyIn (getD words k 0) f) (sym q) ∙ and-parts (upTo (i + 1) gone (x .0)) _ (x .2) .1))
+          (λ (q : x .0 ≡ i → ⊥). or-left (anyDirty words (upTo i gone) f 8192) d (any-dirty words (upTo i gone) f 8192 .1 (x .0, x .1, ap (λ b. b && dirtyIn (getD words (x .0) 0) f) (sym (up-to-other gone i (x .0) q)) ∙ x .2)))
+          (cases-eq (x .0) i)),
+    )
   where
     d : Bool
     d = dirtyIn (getD words i 0) f
@@ -180,11 +186,12 @@ module _ (st u : State) (gone : ℕ → Bool) (i : ℕ) (e : Emptying st u (upTo
         (cases-eq k i);
     marks = λ f lt. ⊎-elim
         (λ (q : f ≡ F). getD-set-here (u .marks) F f _ false q (omega (arith, frame-low w)) ∙ ap (λ g. getD (u .marks) g false || dirty w) (sym q) ∙ joined f lt
-          (sym (and-true (dirty w) (eqb F f) (eq-eqb F f (sym q)))))
+        (sym (and-true (dirty w) (eqb F f) (eq-eqb F f (sym q)))))
         (λ (q : f ≡ F → ⊥). getD-set-other (u .marks) F f _ false q ∙ sym (or-false (getD (u .marks) f false)) ∙ joined f lt
-          (sym (and-false (dirty w) (eqb F f) (ne-eqb F f (λ t. q (sym t))))))
+        (sym (and-false (dirty w) (eqb F f) (ne-eqb F f (λ t. q (sym t))))))
         (cases-eq f F);
-    next = e .next }
+    next = e .next;
+  }
     where
       w : ℕ
       w = wordAt u i
@@ -196,7 +203,7 @@ module _ (st u : State) (gone : ℕ → Bool) (i : ℕ) (e : Emptying st u (upTo
       joined f lt {b} t =
           ap (λ a. a || b) (e .marks f lt) ∙ or-assoc (getD (st .marks) f false) (anyDirty (st .words) (upTo i gone) f 8192) b
           ∙ ap (λ c. getD (st .marks) f false || c)
-            (ap (λ c. anyDirty (st .words) (upTo i gone) f 8192 || c) (t ∙ ap (λ v. dirtyIn v f) emptying-here) ∙ sym (any-more (st .words) gone f i h g))
+          (ap (λ c. anyDirty (st .words) (upTo i gone) f 8192 || c) (t ∙ ap (λ v. dirtyIn v f) emptying-here) ∙ sym (any-more (st .words) gone f i h g))
 
 -- the whole of a set is emptied once the loop has passed every position of it
 pub emptying-all : (st u : State) (gone : ℕ → Bool) → length (u .words) ≡ 8192 → length (u .marks) ≡ 256 → Emptying st u gone → u ≡ emptied st gone
@@ -222,12 +229,42 @@ module _ (gone : ℕ → Bool) (i : ℕ) where
 
 -- a turn of a loop that empties the word or leaves it, by a test
 pub emptying-step : (st u v : State) (gone : ℕ → Bool) (i : ℕ) (b : Bool) → Emptying st u (upTo i gone)
-  → i < 8192 → length (u .words) ≡ 8192 → length (u .marks) ≡ 256 → gone i ≡ b → v ≡ cond b (forgotten u i) u → Emptying st v (upTo (i + 1) gone)
+    → i < 8192 → length (u .words) ≡ 8192 → length (u .marks) ≡ 256 → gone i ≡ b → v ≡ cond b (forgotten u i) u → Emptying st v (upTo (i + 1) gone)
 emptying-step st u v gone i true e h n m g q = rw q (emptying-hit st u gone i e h n m g)
 emptying-step st u v gone i false e h n m g q = rw q (emptying-miss st u gone i e g)
 
 -- a turn of a loop that rewrites the word or leaves it, by a test
 pub rewriting-step : (st u v : State) (after : ℕ → ℕ) (i w : ℕ) (b : Bool) → Rewriting st u after i
-  → i < length (u .words) → after i ≡ cond b w (wordAt st i) → v ≡ cond b (written u i w) u → Rewriting st v after (i + 1)
+    → i < length (u .words) → after i ≡ cond b w (wordAt st i) → v ≡ cond b (written u i w) u → Rewriting st v after (i + 1)
 rewriting-step st u v after i w true r h a q = rw q (rewriting-hit st after u i r w h (sym a))
 rewriting-step st u v after i w false r h a q = rw q (rewriting-miss st after u i r a)
+
+-- u is st with the first i marks off
+pub record Unmarking (st u : State) (i : ℕ) : Type 0 where
+  pub marks : (f : ℕ) → f < i → getD (u .marks) f false ≡ false
+  pub words : u .words ≡ st .words
+  pub next : u .next ≡ st .next
+
+pub unmarking-none : (st : State) → Unmarking st st 0
+unmarking-none st = record { marks = λ f h. absurd (omega arith); words = refl; next = refl }
+
+pub unmarking-more : (st u v : State) (i : ℕ) → Unmarking st u i → i < length (u .marks) → v ≡ markOff u i → Unmarking st v (i + 1)
+unmarking-more st u v i r h q = rw q (record {
+  marks = λ f lt. ⊎-elim
+      (λ (e : f ≡ i). getD-set-here (u .marks) i f false false e h)
+      (λ (e : f ≡ i → ⊥). getD-set-other (u .marks) i f false false e ∙ r .marks f (omega arith))
+      (cases-eq f i);
+  words = r .words;
+  next = r .next;
+})
+
+pub unmarking-all : (st u : State) (i : ℕ) → Unmarking st u i → length (u .marks) ≡ 256 → 256 ≤ i → u ≡ marksOff st
+unfolding marksOff
+unmarking-all st u i r m h = same-state (r .words)
+    (ext-getD false (u .marks) (replicate 256 false) (m ∙ sym (length-replicate 256 false)) (λ f lt. r .marks f (omega arith) ∙ sym (getD-replicate 256 f false false (omega arith))))
+    (r .next)
+
+-- the words, the marks and the counter of a cleared board, written one after the other
+pub starts : (st u v : State) → u ≡ wiped st → v ≡ marksOff u → _≡_ {A = State} (record { words = v .words; marks = v .marks; next = 6 }) started
+unfolding wiped marksOff started
+starts st u v p q = rw (q, p)

@@ -53,7 +53,8 @@ unfoldable pub emptied : State → (ℕ → Bool) → State
 emptied st gone = record {
   words = map (λ k. cond (gone k) 0 (wordAt st k)) (counting 0 8192);
   marks = map (λ f. getD (st .marks) f false || anyDirty (st .words) gone f 8192) (counting 0 256);
-  next = st .next }
+  next = st .next;
+}
 
 -- what comes of a walk: one thing where it found no leaf, another at the words that it met
 abbrev pub reached : {X : Type 0} → Option Walk → X → (Walk → X) → X
@@ -147,7 +148,8 @@ unfoldable pub unlinked : State → ℕ → State
 unlinked st t = record {
   words = map (unlinkedWord st t) (counting 0 8192);
   marks = st .marks;
-  next = st .next }
+  next = st .next;
+}
 
 -- a directory word comes to point to a leaf, and the counter moves past that leaf
 abbrev pub linked : State → ℕ → ℕ → State
@@ -196,5 +198,9 @@ startWord k = cond (eqb k 0) (pointer 1) (cond (leb 512 k && ltb k 516) (pointer
 unfoldable pub wiped : State → State
 wiped st = record { words = map startWord (counting 0 8192); marks = st .marks; next = st .next }
 
+unfoldable pub marksOff : State → State
+marksOff st = record { words = st .words; marks = replicate 256 false; next = st .next }
+
+-- the starting state, whatever was there before
 unfoldable pub started : State
 started = record { words = map startWord (counting 0 8192); marks = replicate 256 false; next = 6 }

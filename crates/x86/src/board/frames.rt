@@ -78,7 +78,7 @@ impl Board {
         }
     }
 
-    fn clear_mark(&mut self, wanted: u16)
+    pub(super) fn clear_mark(&mut self, wanted: u16)
         requires { ⌜ wanted < 256 ⌝ }
         ensures { λ _. ⌜ state (now (self .exit)) ≡ markOff (state (now (self .entry))) wanted ⌝ }
     {

@@ -7,8 +7,8 @@ ghost use Rattle.x86.specs.State.{wordAt, written, emptied, unlinked, linked, 
 ghost use Rattle.x86.specs.Reads.{state};
 use super::Board;
 use super::DIRECTORIES;
-use super::LEAVES;
 use super::LEAF_COUNT;
+use super::LEAVES;
 use crate::word::is_wired;
 use crate::word::pointer;
 use crate::word::points_to;

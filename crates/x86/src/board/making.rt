@@ -1,14 +1,22 @@
 // Making a board, and clearing it.
 ghost use mathlib.Core.Path.{_≡_};
-ghost use mathlib.Core.Bool.{false};
 ghost use Prim.Native.Nat.{_<_};
-ghost use lib.ListN.{length, replicate};
-ghost use Rattle.x86.specs.State.{startWord, started, wiped};
+ghost use Rattle.x86.specs.State.{startWord, wiped, marksOff, started};
 ghost use Rattle.x86.specs.Reads.{state};
+ghost use Rattle.x86.specs.Making.{Made};
 use super::Board;
 use super::FRAMES;
 use super::WORDS;
 use crate::word::pointer;
+use refusal::file::FileRefusal;
+use std::alloc::Global;
+
+// Why no board was made, with the table memory as it was given.
+#[derive(Drop)]
+pub enum NotMade {
+    Refused(FileRefusal, Vec<u64>),
+    NoMemory(Vec<u64>),
+}
 
 // The word at a position of a cleared board.
 fn start_word(at: usize) -> u64
@@ -34,14 +42,40 @@ impl Board {
         }
     }
 
+    // Puts every mark off.
+    fn clear_marks(&mut self)
+        ensures { λ _. ⌜ state (now (self .exit)) ≡ marksOff (state (now (self .entry))) ⌝ }
+    {
+        for frame in 0..pmap::range::FRAMES {
+            self.clear_mark(frame);
+        }
+    }
+
     // No mapping and no modified frame is left.
     pub fn clear(&mut self)
         ensures { λ _. ⌜ state (now (self .exit)) ≡ started ⌝ }
     {
         self.start_words();
-        for frame in 0..FRAMES {
-            self.marks[frame] = false;
-        }
+        self.clear_marks();
         self.next = 6;
+    }
+
+    // A board over the given table memory, cleared. Memory of another length is refused and comes back as it was.
+    pub fn new(heap: Global, words: Vec<u64>) -> Result<Board, NotMade>
+        ensures { λ r. ⌜ Made words r ⌝ }
+    {
+        if words.len() != WORDS {
+            return Err(NotMade::Refused(FileRefusal::Size, words));
+        }
+        let Ok(marks) = vec![in heap; false; FRAMES] else {
+            return Err(NotMade::NoMemory(words));
+        };
+        let mut board = Board {
+            words,
+            marks,
+            next: 6,
+        };
+        board.clear();
+        Ok(board)
     }
 }

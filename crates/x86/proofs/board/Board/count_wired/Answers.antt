@@ -22,9 +22,10 @@ loop-at-again c =
     let test = wiredBeside st (c .args .own) in
     let i = c .loop-at .at in
     let here : test i ≡ wiredOther st (c .args .own) i = ap (λ b. b && wiredOther st (c .args .own) i) (le-leb 3072 i (omega arith)) in
-    elim (c .if-wired-other .came)
-    [ then-wired-other w ↦ (w .count-is ∙ ap (λ n. n + 1) (c .loop-at .inv .0) ∙ sym (tally-hit test i (here ∙ sym (w .if-wired-other .ensures tt))), omega (arith, w .count-is))
-    | else-wired-other w ↦ (w .count-is ∙ c .loop-at .inv .0 ∙ sym (tally-miss test i (here ∙ sym (w .if-wired-other .ensures tt))), omega (arith, w .count-is)) ]
+    elim (c .if-wired-other .came) [
+      | then-wired-other w ↦ (w .count-is ∙ ap (λ n. n + 1) (c .loop-at .inv .0) ∙ sym (tally-hit test i (here ∙ sym (w .if-wired-other .ensures tt))), omega (arith, w .count-is))
+      | else-wired-other w ↦ (w .count-is ∙ c .loop-at .inv .0 ∙ sym (tally-miss test i (here ∙ sym (w .if-wired-other .ensures tt))), omega (arith, w .count-is))
+    ]
 
 pub returns : need.returns
 returns c =
