@@ -1,2 +1,4 @@
 pub mod Fields
 pub mod Tables
+pub mod Counts
+pub mod Keeps
