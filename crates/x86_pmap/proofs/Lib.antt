@@ -2,3 +2,4 @@ pub mod Fields
 pub mod Tables
 pub mod Counts
 pub mod Keeps
+pub mod Follows
