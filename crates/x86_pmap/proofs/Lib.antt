@@ -3,3 +3,5 @@ pub mod Tables
 pub mod Counts
 pub mod Keeps
 pub mod Follows
+pub mod Single
+pub mod Touches
