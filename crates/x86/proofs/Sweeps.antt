@@ -11,8 +11,8 @@ use Rattle.std.specs.Iters.{counting}
 use Rattle.std.specs.Orderings.{Decides}
 use Rattle.std.proofs.shelf.Tests.{cases-eq, cases-lt, cases-bool, cond-true, cond-false, lt-ltb, le-ltb, ltb-true, and-parts, and-from, and-left, eq-eqb, ne-eqb, or-cases, or-left, or-right}
 use Rattle.std.proofs.shelf.Ways.{same-from-decides, decides-below-or}
-use Rattle.std.proofs.shelf.Counted.{fill-by-all}
-use Rattle.std.proofs.shelf.Lists.{getD-set-same, getD-set-other, getD-replicate, length-replicate, ext-getD}
+use Rattle.std.proofs.shelf.Counted.{fill-by-all, getD-map-counting, length-map-counting}
+use Rattle.std.proofs.shelf.Lists.{getD-set-same, getD-set-other, getD-replicate, length-replicate, ext-getD, getD-past}
 use Rattle.x86.specs.Words.{frameOf, dirty, dirtyIn}
 use Rattle.x86.specs.State.{State, wordAt, written, merged, forgotten, anyDirty, emptied, markOff, marksOff, wiped, started}
 
@@ -268,3 +268,40 @@ unmarking-all st u i r m h = same-state (r .words)
 pub starts : (st u v : State) → u ≡ wiped st → v ≡ marksOff u → _≡_ {A = State} (record { words = v .words; marks = v .marks; next = 6 }) started
 unfolding wiped marksOff started
 starts st u v p q = rw (q, p)
+
+-- the emptied state, position by position
+module _ (st : State) (gone : ℕ → Bool) (n : length (st .words) ≡ 8192) where
+  pub emptied-emptying : Emptying st (emptied st gone) gone
+  unfolding emptied
+  emptied-emptying = record {
+    words = λ k. ⊎-elim
+        (λ (lt : k < 8192). getD-map-counting (λ j. cond (gone j) 0 (wordAt st j)) 0 8192 k k 0 lt (omega arith))
+        (λ (le : 8192 ≤ k). getD-past (map (λ j. cond (gone j) 0 (wordAt st j)) (counting 0 8192)) k 0 (omega (arith, length-map-counting (λ j. cond (gone j) 0 (wordAt st j)) 0 8192)) ∙ sym (both-zero (gone k) (getD-past (st .words) k 0 (omega arith))))
+        (cases-lt k 8192);
+    marks = λ f h. getD-map-counting (λ g. getD (st .marks) g false || anyDirty (st .words) gone g 8192) 0 256 f f false h (omega arith);
+    next = refl }
+    where
+      both-zero : (b : Bool) {w : ℕ} → w ≡ 0 → cond b 0 w ≡ 0
+      both-zero true e = refl
+      both-zero false e = e
+
+  pub emptied-words : length (emptied st gone .words) ≡ 8192
+  unfolding emptied
+  emptied-words = length-map-counting (λ j. cond (gone j) 0 (wordAt st j)) 0 8192
+
+  pub emptied-marks : length (emptied st gone .marks) ≡ 256
+  unfolding emptied
+  emptied-marks = length-map-counting (λ g. getD (st .marks) g false || anyDirty (st .words) gone g 8192) 0 256
+
+-- one position is emptied
+pub forgotten-emptying : (st : State) (k : ℕ) → length (st .words) ≡ 8192 → length (st .marks) ≡ 256 → k < 8192 → Emptying st (forgotten st k) (λ j. eqb j k)
+forgotten-emptying st k n m h =
+    emptying-same st (forgotten st k) (upTo (k + 1) gone) gone (up-to-all gone (k + 1) (λ j le. ne-eqb j k (omega arith)))
+    (emptying-hit st st gone k (emptying-none st (upTo k gone) (up-to-none gone k (λ j lt. ne-eqb j k (omega arith)))) h n m (eq-eqb k k refl))
+  where
+    gone : ℕ → Bool
+    gone j = eqb j k
+
+-- the words that a call rewrites, position by position
+pub rewritten-word : (after : ℕ → ℕ) (k : ℕ) → k < 8192 → getD (map after (counting 0 8192)) k 0 ≡ after k
+rewritten-word after k h = getD-map-counting after 0 8192 k k 0 h (omega arith)

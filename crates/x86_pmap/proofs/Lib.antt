@@ -5,3 +5,4 @@ pub mod Keeps
 pub mod Follows
 pub mod Single
 pub mod Touches
+pub mod Places

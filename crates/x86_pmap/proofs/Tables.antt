@@ -153,7 +153,7 @@ module _ (st : State) (K : Kept st) where
           r : Reaches st n (k / 512)
           r = walk-reaches st K n inside (k / 512) (omega arith) (omega arith) (rw directory (o .points))
 
-fits-true : (a b : ℕ) → a < 4 → b < 262144 → fitsPlace a b ≡ true
+pub fits-true : (a b : ℕ) → a < 4 → b < 262144 → fitsPlace a b ≡ true
 fits-true a b p q = and-from (ltb a 4) (ltb b 262144) (lt-ltb a 4 p) (lt-ltb b 262144 q)
 
 pub fits-both : (a b : ℕ) → fitsPlace a b ≡ true → (a < 4) × (b < 262144)
