@@ -6,3 +6,4 @@ pub mod Follows
 pub mod Single
 pub mod Touches
 pub mod Places
+pub mod Rewrites
