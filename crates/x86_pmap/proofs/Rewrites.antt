@@ -14,6 +14,7 @@ use Rattle.pmap.specs.Meaning.{View, Mapping, Same, Put, PutForgetting, Elsewhe
 use Rattle.slots.specs.Slots.{Entry, Shows, Single}
 use Rattle.slots.specs.Changes.{Rewritten}
 use Rattle.slots.proofs.Shown.{unchanged-same, rewritten-here, rewritten-was, rewritten-others, rewritten-marks, rewritten-same-marks, added}
+use Rattle.x86.specs.declared.walk.Walk.{Walk}
 use Rattle.x86.specs.Words.{present, writable, dirty, wired, frameOf, protectionOf, touched, dirtied, readOnly, unwired, hitWord, serves}
 use Rattle.x86.specs.Walks.{linear, walk}
 use Rattle.x86.specs.State.{State, wordAt, written, rewritten, reached, foundIn, rewrittenAt, hit, accessed, accessAnswer}
@@ -157,3 +158,139 @@ module _ (s p : ℕ) (x : s < 4) (y : p < 262144) (st : State) (K : Kept st) whe
     where
       off : (w : ℕ) → _≡_ {A = Mapping} (mappingIn (unwired w)) (frameOf w, protectionOf w, false)
       off w = simp (unwired-frame w, unwired-writable w, unwired-wired w)
+
+-- what a hit leaves of a leaf word
+module _ (w : ℕ) where
+  pub hit-mapped : (write : Bool) → Mapped w → Mapped (hitWord write w)
+  hit-mapped true m = mapped-dirtied (touched w) (mapped-touched w m)
+  hit-mapped false m = mapped-touched w m
+
+  pub hit-frame : (write : Bool) → frameOf (hitWord write w) ≡ frameOf w
+  hit-frame true = dirtied-frame (touched w) ∙ touched-frame w
+  hit-frame false = touched-frame w
+
+  pub hit-wired : (write : Bool) → wired (hitWord write w) ≡ wired w
+  hit-wired true = dirtied-wired (touched w) ∙ touched-wired w
+  hit-wired false = touched-wired w
+
+  hit-writable : (write : Bool) → writable (hitWord write w) ≡ writable w
+  hit-writable true = dirtied-writable (touched w) ∙ touched-writable w
+  hit-writable false = touched-writable w
+
+  hit-dirty : (write : Bool) → dirty w ≡ true → dirty (hitWord write w) ≡ true
+  hit-dirty true e = dirtied-dirty (touched w)
+  hit-dirty false e = touched-dirty w ∙ e
+
+  hit-mapping : (write : Bool) → _≡_ {A = Mapping} (mappingIn (hitWord write w)) (mappingIn w)
+  hit-mapping write = simp (hit-frame write, hit-writable write, hit-wired write)
+
+-- the answer of the tables is that of the mapping they hold
+serves-answers : (on right write wires : Bool) (f : ℕ) → cond (on && (not write || right)) (Hit f) Miss ≡ answered (cond on (Some (f, cond right 3 1, wires)) None) write
+serves-answers true true true wires f = refl
+serves-answers true true false wires f = refl
+serves-answers true false true wires f = refl
+serves-answers true false false wires f = refl
+serves-answers false right write wires f = refl
+
+module _ (s p : ℕ) (x : s < 4) (y : p < 262144) (st : State) (K : Kept st) (write : Bool) where
+  -- the bits of a hit go on
+  hit-there : (t : ℕ) → Reaches st (linear s p) t → present (wordAt st (512 * t + linear s p % 512)) ≡ true
+    → Kept (hit st (met (linear s p) t) write) × PutForgetting (viewOf st) (viewOf (hit st (met (linear s p) t) write)) s p (viewOf st .held s p) (marked (viewOf st .modified) write (frameOf (wordAt st (512 * t + linear s p % 512))))
+  hit-there t r on = (both .0, record {
+    here = W .here ∙ ap Some (hit-mapping w write) ∙ sym (W .was) ∙ T .same .held s p;
+    others = λ a b far. inl (W .others a b far ∙ T .same .held a b);
+    marked = marks write refl })
+    where
+      n : ℕ
+      n = linear s p
+
+      k : ℕ
+      k = 512 * t + n % 512
+
+      inside : n < 1048576
+      inside = r .within
+
+      st₁ : State
+      st₁ = rewritten st 0 touched
+
+      T₁ : Touching st st₁
+      T₁ = touch st K 0 (omega arith) (points-some _ 1 (K .root))
+
+      st₂ : State
+      st₂ = rewritten st₁ (512 + n / 262144) touched
+
+      T₂ : Touching st st₂
+      T₂ = touching-more st st₁ st₂ T₁ (touch st₁ (T₁ .kept) (512 + n / 262144) (omega (arith, inside)) (points-some _ (2 + n / 262144) (T₁ .kept .entries (n / 262144) (omega (arith, inside)))))
+
+      st₃ : State
+      st₃ = rewritten st₂ (1024 + n / 512) touched
+
+      T : Touching st st₃
+      T = touching-more st st₂ st₃ T₂ (touch st₂ (T₂ .kept) (1024 + n / 512) (omega (arith, inside)) (points-some _ t (T₂ .reaches n t r .points)))
+
+      w : ℕ
+      w = wordAt st₃ k
+
+      same-word : w ≡ wordAt st k
+      same-word = T .leaf k (omega (arith, r .low))
+
+      m : Mapped w
+      m = ⊎-elim
+          (λ z. absurd (both-ways (present w) (ap present z ∙ zero-present) (ap present same-word ∙ on)))
+          (λ h. h .0)
+          (T .kept .leaves k (omega (arith, r .low)) (omega (arith, r .high)))
+
+      u : State
+      u = written st₃ k (hitWord write w)
+
+      both : Kept u × Reword (viewOf st₃) (viewOf u) s p w (hitWord write w)
+      both = leaf-reworded s p x y st₃ (T .kept) t (hitWord write w) (T .reaches n t r) m (hit-mapped w write m) (hit-frame w write) (hit-dirty w write) (λ e. sym (hit-wired w write) ∙ e)
+
+      W : Reword (viewOf st₃) (viewOf u) s p w (hitWord write w)
+      W = both .1
+
+      marks : (b : Bool) → write ≡ b → viewOf u .modified ≡ marked (viewOf st .modified) write (frameOf (wordAt st k))
+      marks true e =
+          W .marks ∙ ap (λ set. added set (dirty (hitWord write w)) (frameOf (hitWord write w))) (T .same .marks)
+          ∙ ap (λ b. added (viewOf st .modified) b (frameOf (hitWord write w))) (ap (λ b. dirty (hitWord b w)) e ∙ dirtied-dirty (touched w) ∙ sym e)
+          ∙ ap (λ f. added (viewOf st .modified) write f) (hit-frame w write ∙ ap frameOf same-word)
+      marks false e =
+          W .same (ap (λ b. dirty (hitWord b w)) e ∙ touched-dirty w) ∙ T .same .marks
+          ∙ fun-ext (λ g. sym (or-false (viewOf st .modified g)) ∙ ap (λ b. viewOf st .modified g || (b && eqb g (frameOf (wordAt st k)))) (sym e))
+
+  -- access
+  Answers : State → Access → Type 0
+  Answers u a = Kept u × (a ≡ answered (viewOf st .held s p) write) × Accessed (viewOf st) (viewOf u) s p write a
+
+  access-there : (t : ℕ) → Reaches st (linear s p) t
+    → Answers (cond (serves (wordAt st (512 * t + linear s p % 512)) write) (hit st (met (linear s p) t) write) st) (cond (serves (wordAt st (512 * t + linear s p % 512)) write) (Hit (frameOf (wordAt st (512 * t + linear s p % 512)))) Miss)
+  unfolding Answers
+  access-there t r = ⊎-elim
+      (λ (e : serves w write ≡ true).
+      let h = hit-there t r (and-parts (present w) _ e .0) in
+      rw e (h .0, sym (cond-true (serves w write) (Hit (frameOf w)) Miss e) ∙ answer, h .1))
+      (λ (e : serves w write ≡ false). rw e (K, sym (cond-false (serves w write) (Hit (frameOf w)) Miss e) ∙ answer, record { held = λ a b. refl; marks = refl }))
+      (cases-bool (serves w write))
+    where
+      w : ℕ
+      w = wordAt st (512 * t + linear s p % 512)
+
+      answer : cond (serves w write) (Hit (frameOf w)) Miss ≡ answered (viewOf st .held s p) write
+      answer = serves-answers (present w) (writable w) write (wired w) (frameOf w) ∙ ap (λ h. answered h write) (sym (held-reached s p x y st K t r))
+
+  pub access-means : Kept (accessed st s p write) × (accessAnswer st s p write ≡ answered (viewOf st .held s p) write) × Accessed (viewOf st) (viewOf (accessed st s p write)) s p write (accessAnswer st s p write)
+  unfolding Answers
+  access-means = ⊎-elim
+      (λ z. let none = walk-nothing st K (linear s p) (page-inside s p x y) z in
+      both (after None none) (answer None none) (K, sym (ap (λ h. answered h write) (held-nothing s p x y st K z)), record { held = λ a b. refl; marks = refl }))
+      (λ l. both (after (Some (met (linear s p) (l .0))) (l .1 .walks)) (answer (Some (met (linear s p) (l .0))) (l .1 .walks)) (access-there (l .0) (l .1)))
+      (page-cases st K (linear s p) (page-inside s p x y))
+    where
+      both : {u v : State} {a b : Access} → u ≡ v → a ≡ b → Answers v b → Answers u a
+      both {u} {v} {a} {b} e f h = subst (λ i. Answers i a) (sym e) (subst (Answers v) (sym f) h)
+
+      after : (o : Option Walk) → walk (st .words) (linear s p) ≡ o → accessed st s p write ≡ reached o st (λ w. cond (serves (wordAt st (w .leaf)) write) (hit st w write) st)
+      after o e = ap (λ i. reached i st (λ w. cond (serves (wordAt st (w .leaf)) write) (hit st w write) st)) e
+
+      answer : (o : Option Walk) → walk (st .words) (linear s p) ≡ o → accessAnswer st s p write ≡ reached o Miss (λ w. cond (serves (wordAt st (w .leaf)) write) (Hit (frameOf (wordAt st (w .leaf)))) Miss)
+      answer o e = ap (λ i. reached i Miss (λ w. cond (serves (wordAt st (w .leaf)) write) (Hit (frameOf (wordAt st (w .leaf)))) Miss)) e
