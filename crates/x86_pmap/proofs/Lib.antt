@@ -7,3 +7,4 @@ pub mod Single
 pub mod Touches
 pub mod Places
 pub mod Rewrites
+pub mod Frames
