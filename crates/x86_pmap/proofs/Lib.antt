@@ -8,3 +8,5 @@ pub mod Touches
 pub mod Places
 pub mod Rewrites
 pub mod Frames
+pub mod Starts
+pub mod Wirings
