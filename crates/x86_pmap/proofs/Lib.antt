@@ -10,3 +10,5 @@ pub mod Rewrites
 pub mod Frames
 pub mod Starts
 pub mod Wirings
+pub mod Choices
+pub mod Takes
