@@ -1,19 +1,17 @@
 -- What an accepted call passed, and that each call leaves what the state of a memory keeps. Assumes nothing.
-use mathlib.Core.Path.{_≡_, refl, sym, ap, _∙_}
-use mathlib.Core.List.{List, [], _∷_, _++_}
-use mathlib.Core.Bool.{Bool, true, false, not, _&&_}
-use Prim.Native.Nat.{ℕ, _+_, _*_, _/_, _<_, _≤_}
+use mathlib.Core.Path.{_≡_, refl, ap, _∙_}
+use mathlib.Core.Bool.{Bool, true, not, _&&_}
+use Prim.Native.Nat.{ℕ, _+_, _/_, _<_, _≤_}
 use native.Mathlib.Omega.{arith}
 use lib.Dec.{eqb, ltb, leb}
 use lib.ListN.{length}
-use Rattle.std.specs.shelf.Lists.{All}
 use Rattle.std.proofs.shelf.Lists.{length-push}
 use Rattle.std.proofs.shelf.Elements.{all-push}
 use Rattle.std.proofs.shelf.Tests.{ltb-true, leb-true, leb-false, eqb-true, not-false, and-parts, and-from}
 use Rattle.std.specs.declared.option.Option.{Option}
 use Rattle.std.specs.declared.option.Option.the-variants.{Some, None}
 use Rattle.refusal.specs.declared.memory.MemoryRefusal.{MemoryRefusal}
-use Rattle.refusal.specs.declared.memory.MemoryRefusal.the-variants.{CallLimit, Range, Overlap, RegionsFull, NoRegion, ReadOnly, Wired, NotWired, WiredFull, NoFrame}
+use Rattle.refusal.specs.declared.memory.MemoryRefusal.the-variants.{CallLimit, Range, Overlap, RegionsFull, ReadOnly, Wired, WiredFull}
 use Rattle.pmap.specs.Ranges.{fitsPlace, fitsProtection}
 use Rattle.calls.specs.declared.Call.{Call}
 use Rattle.calls.specs.declared.Call.the-variants.{Map, Unmap, Protect, Read, Write, Wire, Unwire, Sync}
@@ -21,14 +19,11 @@ use Rattle.rules.specs.declared.region.Region.{Region}
 use Rattle.rules.specs.Lists.{first, any, without, changed}
 use Rattle.rules.specs.State.{State, lie, pageIn}
 use Rattle.rules.specs.Refusals.{refuse, covers, cover, begins, overlaps, isPlace, wantsFrame, fitsMap, readRefusal, writeRefusal, wireRefusal, regionRefusal, callRefusal, refusal}
-use Rattle.rules.specs.Paging.{resident, evictedBy, writtenTo}
-use Rattle.rules.specs.Rules.{pageAt, objectPage, mapped, withProtection, wiredTo, moved, movedBy, after, reply, counted}
+use Rattle.rules.specs.Paging.{resident, evictedBy}
+use Rattle.rules.specs.Rules.{pageAt, objectPage, mapped, withProtection, moved, movedBy, after, reply, counted}
 use Rattle.rules.specs.Good.{Good, regionFits}
-use Rattle.rules.proofs.Lists.{first-passes, first-all-of, all-without, length-without-le, all-changed, length-changed}
-use Rattle.rules.proofs.GoodKept.{refuse-none, Brought, brings, good-resident, good-withRegions, good-withCounts, good-wired, good-unwired, good-written, good-synced}
-
-never : {B : Type 0} → _≡_ {A = ℕ} 0 1 → B
-never e = absurd (omega arith)
+use Rattle.rules.proofs.Lists.{never, first-passes, first-all-of, all-without, length-without-le, all-changed, length-changed}
+use Rattle.rules.proofs.GoodKept.{refuse-none, Brought, brings, good-withRegions, good-withCounts, good-wired, good-unwired, good-written, good-synced}
 
 -- the numbers of a region, and of a page that it covers
 
@@ -54,7 +49,8 @@ fits r h =
       count = ltb-true 0 (r .count) (d .0);
       pages = leb-true (r .first + r .count) 262144 (e .0);
       space = ltb-true (r .space) 4 (p .0);
-      first = ltb-true (r .first) 262144 (p .1) }
+      first = ltb-true (r .first) 262144 (p .1);
+    }
 
 -- a place that a region covers stands for a page of the region's object
 pub record Covered (r : Region) (a p : ℕ) : Type 0 where
@@ -80,7 +76,8 @@ covered s a p r g e =
       from = from;
       upto = upto;
       page-low = omega (arith, n .object, n .offset);
-      page-object = omega (arith, n .offset) }
+      page-object = omega (arith, n .offset);
+    }
 
 -- an accepted read, write or wire is to an object page that is resident or finds a frame
 pub record Reaches (s : State) (a p : ℕ) : Type 0 where
@@ -145,27 +142,27 @@ reached s a p g r = brings s (pageAt s a p) g (r .low) (r .room)
 
 -- what the state keeps
 
-good-mapped : (s : State) (a p count object offset q : ℕ) → Good s → callRefusal s (Map a p count object offset q) ≡ None → Good (moved s (Map a p count object offset q))
+pub good-mapped : (s : State) (a p count object offset q : ℕ) → Good s → callRefusal s (Map a p count object offset q) ≡ None → Good (moved s (Map a p count object offset q))
 good-mapped s a p count object offset q g e =
     let new : Region = record { space = a; first = p; count = count; object = object; offset = offset; protection = q } in
     let h = refuse-none (not (fitsMap a p count object offset q)) Range (refuse (any (overlaps a p count) (s .regions)) Overlap (refuse (leb 64 (length (s .regions))) RegionsFull None)) e in
     let k = refuse-none (any (overlaps a p count) (s .regions)) Overlap (refuse (leb 64 (length (s .regions))) RegionsFull None) (h .1) in
     let few = leb-false 64 (length (s .regions)) (refuse-none (leb 64 (length (s .regions))) RegionsFull None (k .1) .0) in
     good-withRegions s (mapped (s .regions) a p count object offset q) g
-        (omega (arith, length-push (s .regions) new))
-        (all-push regionFits (s .regions) new (g .regions-fit) (not-false (fitsMap a p count object offset q) (h .0)))
+    (omega (arith, length-push (s .regions) new))
+    (all-push regionFits (s .regions) new (g .regions-fit) (not-false (fitsMap a p count object offset q) (h .0)))
 
 pub good-unmapped : (s : State) (a p : ℕ) → Good s → Good (moved s (Unmap a p))
 good-unmapped s a p g =
     good-withRegions s (without (begins a p) (s .regions)) g
-        (let few = g .regions-few in omega (arith, length-without-le (begins a p) (s .regions)))
-        (all-without (begins a p) regionFits (s .regions) (g .regions-fit))
+    (let few = g .regions-few in omega (arith, length-without-le (begins a p) (s .regions)))
+    (all-without (begins a p) regionFits (s .regions) (g .regions-fit))
 
-good-protected : (s : State) (a p q : ℕ) → Good s → callRefusal s (Protect a p q) ≡ None → Good (moved s (Protect a p q))
+pub good-protected : (s : State) (a p q : ℕ) → Good s → callRefusal s (Protect a p q) ≡ None → Good (moved s (Protect a p q))
 good-protected s a p q g e =
     good-withRegions s (changed (begins a p) (withProtection q) (s .regions)) g
-        (let few = g .regions-few in omega (arith, length-changed (begins a p) (withProtection q) (s .regions)))
-        (all-changed (begins a p) (withProtection q) regionFits keep (s .regions) (g .regions-fit))
+    (let few = g .regions-few in omega (arith, length-changed (begins a p) (withProtection q) (s .regions)))
+    (all-changed (begins a p) (withProtection q) regionFits keep (s .regions) (g .regions-fit))
   where
     passed : (fitsPlace a p && fitsProtection q) ≡ true
     passed = not-false (fitsPlace a p && fitsProtection q) (refuse-none (not (fitsPlace a p && fitsProtection q)) Range (regionRefusal s (first (begins a p) (s .regions))) e .0)

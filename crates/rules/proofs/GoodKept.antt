@@ -1,41 +1,36 @@
 -- Each call leaves what the state of a memory keeps. Assumes nothing.
-use mathlib.Core.Path.{_≡_, refl, sym, ap, subst, _∙_}
-use mathlib.Core.Logic.{_⊎_, inl, inr, ⊎-elim}
-use mathlib.Core.List.{List, [], _∷_, _++_, map}
-use mathlib.Core.Bool.{Bool, true, false, cond, not, _&&_, _||_}
-use Prim.Native.Nat.{ℕ, _+_, _-_, _*_, _/_, _%_, _<_, _≤_}
+use mathlib.Core.Path.{_≡_, refl, sym, ap, _∙_}
+use mathlib.Core.Logic.{⊎-elim}
+use mathlib.Core.List.{List, [], _∷_, _++_}
+use mathlib.Core.Bool.{Bool, true, false, cond, not, _&&_}
+use Prim.Native.Nat.{ℕ, _+_, _*_, _/_, _%_, _<_, _≤_}
 use native.Mathlib.Omega.{arith}
-use lib.Dec.{eqb, ltb, leb}
-use lib.ListN.{length, getD, set, replicate}
+use lib.Dec.{eqb}
+use lib.ListN.{length, getD, replicate}
 use Rattle.std.specs.shelf.Lists.{All}
-use Rattle.std.specs.Iters.{counting}
-use Rattle.std.proofs.shelf.Lists.{length-set, length-push, length-replicate, getD-replicate, getD-set-same, getD-set-other, getD-past}
-use Rattle.std.proofs.shelf.Counted.{length-counting, getD-counting, length-map-counting, getD-map-counting}
-use Rattle.std.proofs.shelf.Elements.{all-weaker, all-push}
-use Rattle.std.proofs.shelf.Tests.{cases-bool, cases-eq, cases-lt, eq-eqb, ne-eqb, eqb-true, eqb-false, ltb-true, ltb-false, leb-true, leb-false, both-ways, not-true, not-false, and-parts, and-from, and-cases, and-right, or-parts, or-cases, or-left, or-right, cond-both, cond-true, cond-false}
+use Rattle.std.proofs.shelf.Lists.{length-set, length-push, length-replicate, getD-replicate, getD-set-other, getD-past}
+use Rattle.std.proofs.shelf.Counted.{length-counting, length-map-counting, getD-map-counting}
+use Rattle.std.proofs.shelf.Elements.{all-push}
+use Rattle.std.proofs.shelf.Tests.{cases-bool, cases-lt, eq-eqb, eqb-true, eqb-false, ltb-true, not-false, and-parts, and-from, and-cases, and-right, or-parts, or-cases, cond-true, cond-false}
 use Rattle.std.specs.declared.option.Option.{Option}
 use Rattle.std.specs.declared.option.Option.the-variants.{Some, None}
 use Rattle.refusal.specs.declared.memory.MemoryRefusal.{MemoryRefusal}
 use Rattle.refusal.specs.declared.memory.MemoryRefusal.the-variants.{NoFrame}
-use Rattle.pmap.specs.Ranges.{fitsPlace, fitsProtection}
 use Rattle.rules.specs.declared.answer.Evicted.{Evicted}
-use Rattle.rules.specs.declared.answer.Evicted.the-variants.{Nothing, Page}
+use Rattle.rules.specs.declared.answer.Evicted.the-variants.{Nothing}
 use Rattle.rules.specs.declared.counts.Counts.{Counts}
 use Rattle.rules.specs.declared.region.Region.{Region}
 use Rattle.rules.specs.declared.region.WiredPlace.{WiredPlace}
-use Rattle.rules.specs.Lists.{first, any, without, changed}
-use Rattle.rules.specs.State.{State, lie, dirtyIn, isModified, pageIn, noPages, noFrames, startingWords, fresh}
-use Rattle.rules.specs.Refusals.{refuse, covers, cover, begins, isPlace, onFrame, free, hasFrame, wantsFrame, fitsMap}
+use Rattle.rules.specs.Lists.{any, without}
+use Rattle.rules.specs.State.{State, lie, dirtyIn, isModified, noPages, noFrames, startingWords, fresh}
+use Rattle.rules.specs.Refusals.{refuse, isPlace, free, hasFrame, wantsFrame}
 use Rattle.rules.specs.Paging.{owner, victim, evict, load, unused, replaced, replacedPage, evictedPage, brought, broughtOut, residentBy, resident, evictedBy, writtenTo, wordIn, storedWord, storedWords, synced}
-use Rattle.rules.specs.Rules.{withRegions, withWired, wiredTo, withCounts, withProtection}
-use Rattle.rules.specs.Good.{Good, inUse, Apart, regionFits}
+use Rattle.rules.specs.Rules.{withRegions, withWired, wiredTo, withCounts}
+use Rattle.rules.specs.Good.{Good, inUse, regionFits}
 use Rattle.rules.specs.Laws.{isEvicted}
-use Rattle.rules.proofs.Lists.{first-passes, first-some, first-all-of, any-first, all-without, length-without-le, all-changed, length-changed, any-push-old}
+use Rattle.rules.proofs.Lists.{never, first-passes, first-some, all-without, length-without-le}
 use Rattle.rules.proofs.Queues.{first-has}
-use Rattle.rules.proofs.Loads.{content, wordOf, lie-low, owner-low, used-low, Ready, ready-unused, ready-evicted, lie-evicted, lie-evict, content-evict, modified-evict, modified-evicted, lie-loaded, content-load, modified-load, good-loaded}
-
-never : {B : Type 0} → _≡_ {A = ℕ} 0 1 → B
-never e = absurd (omega arith)
+use Rattle.rules.proofs.Loads.{content, wordOf, lie-low, Ready, ready-unused, ready-evicted, lie-evict, content-evict, modified-evict, modified-evicted, lie-loaded, content-load, modified-load, good-loaded}
 
 -- what is not refused passed the test
 pub refuse-none : (b : Bool) (e : MemoryRefusal) (o : Option MemoryRefusal) → refuse b e o ≡ None → (b ≡ false) × (o ≡ None)
@@ -70,7 +65,8 @@ module _ (s : State) (x : ℕ) (g : Good s) (low : x < 2048) where
     words = λ y. refl;
     stays = λ y n. refl;
     goes = λ y e. absurd e;
-    other = λ e. e }
+    other = λ e. e;
+  }
 
   brings-unused : lie s x ≡ None → length (s .queue) < s .frames → Brought s (load s x (length (s .queue))) x Nothing
   brings-unused absent room =
@@ -87,7 +83,8 @@ module _ (s : State) (x : ℕ) (g : Good s) (low : x < 2048) where
         words = content-load s x f r low absent;
         stays = λ y n. modified-load s x f r low absent y;
         goes = λ y e. absurd e;
-        other = λ e. e }
+        other = λ e. e;
+      }
 
   brings-victim : (f : ℕ) → lie s x ≡ None → victim s ≡ Some f → Brought s (load (evict s f) x f) x (evictedPage s f)
   brings-victim f absent v =
@@ -102,18 +99,24 @@ module _ (s : State) (x : ℕ) (g : Good s) (low : x < 2048) where
         words = λ y. content-load t x f r low gone y ∙ content-evict s f g used y;
         stays = λ y n. modified-load t x f r low gone y ∙ modified-evict s f g used y (λ e. n (is-owner ∙ sym e));
         goes = λ y e. modified-load t x f r low gone y ∙ ap (isModified t) (sym e ∙ is-owner) ∙ modified-evicted s f g used;
-        other = λ e. (let here : lie s (owner s f) ≡ lie s x = ap (lie s) (sym is-owner ∙ e) in let there = g .owner-lies f used in never (cc)) }
+        other = λ e. (let here : lie s (owner s f) ≡ lie s x = ap (lie s) (sym is-owner ∙ e) in let there = g .owner-lies f used in never (cc));
+      }
     where
       t : State
       t = evict s f
+
       used : inUse s f ≡ true
       used = first-has (free (s .wired)) (s .queue) f v
+
       r : Ready t f
       r = ready-evicted s f g used (first-passes (free (s .wired)) (s .queue) f v)
+
       is-owner : 256 * (owner s f / 256) + owner s f % 256 ≡ owner s f
       is-owner = omega arith
+
       n : x ≡ owner s f → ⊥
       n e = let here : lie s x ≡ lie s (owner s f) = ap (lie s) e in let there = g .owner-lies f used in never (cc)
+
       gone : lie t x ≡ None
       gone = lie-evict s f g used x n ∙ absent
 
@@ -176,19 +179,20 @@ good-fresh n few = record {
   dirty-used = λ f e. never (cc);
   clean = λ x f e d. (let z = no-lie n x in never (cc));
   wired-few = omega arith;
-  wired-used = tt }
+  wired-used = tt;
+}
 
 -- other regions, wired places or counts
 
-pub good-withRegions : (s : State) (rs : List Region) → Good s → length rs ≤ 64 → All regionFits rs → Good (withRegions s rs)
-good-withRegions s rs g few fit = record {
+good-with : (s : State) (rs : List Region) (ws : List WiredPlace) (n : Counts) → Good s → length rs ≤ 64 → All regionFits rs → length ws ≤ 8 → All (λ w. inUse s (w .frame) ≡ true) ws → Good (withCounts (withWired (withRegions s rs) ws) n)
+good-with s rs ws n g rs-few rs-fit ws-few ws-used = record {
   frames-few = g .frames-few;
   lies-long = g .lies-long;
   owners-long = g .owners-long;
   words-long = g .words-long;
   store-long = g .store-long;
-  regions-few = few;
-  regions-fit = fit;
+  regions-few = rs-few;
+  regions-fit = rs-fit;
   queue-few = g .queue-few;
   queue-low = g .queue-low;
   queue-apart = g .queue-apart;
@@ -197,60 +201,30 @@ good-withRegions s rs g few fit = record {
   owner-lies = g .owner-lies;
   dirty-used = g .dirty-used;
   clean = g .clean;
-  wired-few = g .wired-few;
-  wired-used = g .wired-used }
+  wired-few = ws-few;
+  wired-used = ws-used;
+}
+
+pub good-withRegions : (s : State) (rs : List Region) → Good s → length rs ≤ 64 → All regionFits rs → Good (withRegions s rs)
+good-withRegions s rs g few fit = good-with s rs (s .wired) (s .counts) g few fit (g .wired-few) (g .wired-used)
 
 pub good-withWired : (s : State) (ws : List WiredPlace) → Good s → length ws ≤ 8 → All (λ w. inUse s (w .frame) ≡ true) ws → Good (withWired s ws)
-good-withWired s ws g few used = record {
-  frames-few = g .frames-few;
-  lies-long = g .lies-long;
-  owners-long = g .owners-long;
-  words-long = g .words-long;
-  store-long = g .store-long;
-  regions-few = g .regions-few;
-  regions-fit = g .regions-fit;
-  queue-few = g .queue-few;
-  queue-low = g .queue-low;
-  queue-apart = g .queue-apart;
-  lies-used = g .lies-used;
-  lies-owned = g .lies-owned;
-  owner-lies = g .owner-lies;
-  dirty-used = g .dirty-used;
-  clean = g .clean;
-  wired-few = few;
-  wired-used = used }
+good-withWired s ws g few used = good-with s (s .regions) ws (s .counts) g (g .regions-few) (g .regions-fit) few used
 
 pub good-withCounts : (s : State) (n : Counts) → Good s → Good (withCounts s n)
-good-withCounts s n g = record {
-  frames-few = g .frames-few;
-  lies-long = g .lies-long;
-  owners-long = g .owners-long;
-  words-long = g .words-long;
-  store-long = g .store-long;
-  regions-few = g .regions-few;
-  regions-fit = g .regions-fit;
-  queue-few = g .queue-few;
-  queue-low = g .queue-low;
-  queue-apart = g .queue-apart;
-  lies-used = g .lies-used;
-  lies-owned = g .lies-owned;
-  owner-lies = g .owner-lies;
-  dirty-used = g .dirty-used;
-  clean = g .clean;
-  wired-few = g .wired-few;
-  wired-used = g .wired-used }
+good-withCounts s n g = good-with s (s .regions) (s .wired) n g (g .regions-few) (g .regions-fit) (g .wired-few) (g .wired-used)
 
 pub good-wired : (s : State) (a p x f : ℕ) → Good s → lie s x ≡ Some f → length (s .wired) < 8 → Good (wiredTo s a p (Some f))
 good-wired s a p x f g e few =
     good-withWired s (s .wired ++ (record { space = a; page = p; frame = f } ∷ [])) g
-        (omega (arith, length-push (s .wired) (record { space = a; page = p; frame = f })))
-        (all-push (λ w. inUse s (w .frame) ≡ true) (s .wired) (record { space = a; page = p; frame = f }) (g .wired-used) (g .lies-used x f e))
+    (omega (arith, length-push (s .wired) (record { space = a; page = p; frame = f })))
+    (all-push (λ w. inUse s (w .frame) ≡ true) (s .wired) (record { space = a; page = p; frame = f }) (g .wired-used) (g .lies-used x f e))
 
 pub good-unwired : (s : State) (a p : ℕ) → Good s → Good (withWired s (without (isPlace a p) (s .wired)))
 good-unwired s a p g =
     good-withWired s (without (isPlace a p) (s .wired)) g
-        (let h = g .wired-few in omega (arith, length-without-le (isPlace a p) (s .wired)))
-        (all-without (isPlace a p) (λ w. inUse s (w .frame) ≡ true) (s .wired) (g .wired-used))
+    (let h = g .wired-few in omega (arith, length-without-le (isPlace a p) (s .wired)))
+    (all-without (isPlace a p) (λ w. inUse s (w .frame) ≡ true) (s .wired) (g .wired-used))
 
 -- a word is written to the frame of a resident page
 pub good-written : (s : State) (x f w : ℕ) → Good s → lie s x ≡ Some f → Good (writtenTo s w (Some f))
@@ -269,14 +243,15 @@ good-written s x f w g lies = record {
   lies-owned = g .lies-owned;
   owner-lies = g .owner-lies;
   dirty-used = λ h d. ⊎-elim
-    (λ (e : s .dirty h ≡ true). g .dirty-used h e)
-    (λ (e : eqb h f ≡ true). ap (inUse s) (eqb-true h f e) ∙ g .lies-used x f lies)
-    (or-cases (s .dirty h) (eqb h f) d);
+      (λ (e : s .dirty h ≡ true). g .dirty-used h e)
+      (λ (e : eqb h f ≡ true). ap (inUse s) (eqb-true h f e) ∙ g .lies-used x f lies)
+      (or-cases (s .dirty h) (eqb h f) d);
   clean = λ y h e d. (
-    let parts = or-parts (s .dirty h) (eqb h f) d in
-    getD-set-other (s .words) f h w 0 (eqb-false h f (parts .1)) ∙ g .clean y h e (parts .0));
+      let parts = or-parts (s .dirty h) (eqb h f) d in
+      getD-set-other (s .words) f h w 0 (eqb-false h f (parts .1)) ∙ g .clean y h e (parts .0));
   wired-few = g .wired-few;
-  wired-used = g .wired-used }
+  wired-used = g .wired-used;
+}
 
 -- an object is synced
 
@@ -329,14 +304,15 @@ good-synced s o g = record {
   dirty-used = λ f d. g .dirty-used f (and-parts (s .dirty f) (not (eqb (owner s f / 256) o)) d .0);
   clean = clean;
   wired-few = g .wired-few;
-  wired-used = g .wired-used }
+  wired-used = g .wired-used;
+}
   where
     clean : (x f : ℕ) → lie s x ≡ Some f → (s .dirty f && not (eqb (owner s f / 256) o)) ≡ false → getD (s .words) f 0 ≡ getD (storedWords s o) x 0
     clean x f e d = ⊎-elim
         (λ (q : s .dirty f ≡ false).
-          let m : isModified s x ≡ false = ap (dirtyIn (s .dirty)) e ∙ q in
-          g .clean x f e q ∙ sym (stored-same s o x m) ∙ sym (stored-at s o x (lie-low s x f g e)))
+        let m : isModified s x ≡ false = ap (dirtyIn (s .dirty)) e ∙ q in
+        g .clean x f e q ∙ sym (stored-same s o x m) ∙ sym (stored-at s o x (lie-low s x f g e)))
         (λ (q : not (eqb (owner s f / 256) o) ≡ false).
-          let object : x / 256 ≡ o = ap (λ y. y / 256) (sym (g .lies-owned x f e)) ∙ eqb-true (owner s f / 256) o (not-false (eqb (owner s f / 256) o) q) in
-          sym (ap (wordOf s x) e) ∙ sym (stored-content s o x g object) ∙ sym (stored-at s o x (lie-low s x f g e)))
+        let object : x / 256 ≡ o = ap (λ y. y / 256) (sym (g .lies-owned x f e)) ∙ eqb-true (owner s f / 256) o (not-false (eqb (owner s f / 256) o) q) in
+        sym (ap (wordOf s x) e) ∙ sym (stored-content s o x g object) ∙ sym (stored-at s o x (lie-low s x f g e)))
         (and-cases (s .dirty f) (not (eqb (owner s f / 256) o)) d)

@@ -2,7 +2,7 @@
 use mathlib.Core.Path.{_≡_, refl, sym, ap, _∙_}
 use mathlib.Core.Logic.{⊎-elim}
 use mathlib.Core.List.{List, [], _∷_, _++_}
-use mathlib.Core.Bool.{Bool, true, false, cond, _||_}
+use mathlib.Core.Bool.{Bool, true, false, _||_}
 use Prim.Native.Nat.{ℕ, zero, suc, _+_, _<_, _≤_}
 use native.Mathlib.Omega.{arith}
 use native.Mathlib.Numerals.{add-one}
@@ -10,12 +10,13 @@ use lib.ListN.{length, getD, set, take, drop}
 use Rattle.std.specs.Options.{isSome}
 use Rattle.std.specs.shelf.Lists.{All}
 use Rattle.std.proofs.shelf.Lists.{drop-more, drop-all}
-use Rattle.std.proofs.shelf.Tests.{cases-bool, both-ways, or-parts, or-left, or-right}
+use Rattle.std.proofs.shelf.Tests.{cases-bool, or-parts, or-left, or-right}
 use Rattle.std.specs.declared.option.Option.{Option}
 use Rattle.std.specs.declared.option.Option.the-variants.{Some, None}
 use Rattle.rules.specs.Lists.{first, further, place, any, without, changed}
 
-never : {B : Type 0} → _≡_ {A = ℕ} 0 1 → B
+-- two different constructors are never equal: `cc` gives the equation of the numbers
+pub never : {B : Type 0} → _≡_ {A = ℕ} 0 1 → B
 never e = absurd (omega arith)
 
 module _ {A : Type 0} (test : A → Bool) where
@@ -213,7 +214,8 @@ placed-later test x xs j t p = record {
   passes = p .passes;
   found = λ d. simp t (p .found d);
   removed = simp (t, add-one) (ap (_∷_ x) (p .removed ∙ simp add-one));
-  put = λ f d. simp t (ap (_∷_ x) (p .put f d)) }
+  put = λ f d. simp t (ap (_∷_ x) (p .put f d));
+}
 
 pub placed : {A : Type 0} (test : A → Bool) (xs : List A) (i : ℕ) → place test xs ≡ Some i → Placed test xs i
 unfolding place first without changed

@@ -1,8 +1,8 @@
 -- A page that is evicted and a page that is loaded leave what the state keeps. Assumes nothing.
-use mathlib.Core.Path.{_≡_, refl, sym, ap, subst, _∙_}
+use mathlib.Core.Path.{_≡_, refl, sym, ap, _∙_}
 use mathlib.Core.Logic.{_⊎_, inl, inr, ⊎-elim}
-use mathlib.Core.List.{List, [], _∷_, _++_}
-use mathlib.Core.Bool.{Bool, true, false, cond, not, _&&_}
+use mathlib.Core.List.{List, [], _∷_}
+use mathlib.Core.Bool.{true, false, not}
 use Prim.Native.Nat.{ℕ, _+_, _<_, _≤_}
 use native.Mathlib.Omega.{arith}
 use lib.Dec.{eqb}
@@ -10,20 +10,17 @@ use lib.ListN.{length, getD, set}
 use Rattle.std.specs.shelf.Lists.{All}
 use Rattle.std.proofs.shelf.Lists.{length-set, length-push, getD-set-same, getD-set-other, getD-past}
 use Rattle.std.proofs.shelf.Elements.{all-weaker}
-use Rattle.std.proofs.shelf.Tests.{cases-bool, cases-eq, cases-lt, eq-eqb, ne-eqb, eqb-true, eqb-false, both-ways, not-true, not-false, and-parts, and-cases, cond-both, cond-true, cond-false}
+use Rattle.std.proofs.shelf.Tests.{cases-bool, cases-eq, cases-lt, ne-eqb, eqb-false, both-ways, not-true, and-parts, cond-both}
 use Rattle.std.specs.declared.option.Option.{Option}
 use Rattle.std.specs.declared.option.Option.the-variants.{Some, None}
 use Rattle.rules.specs.declared.region.WiredPlace.{WiredPlace}
 use Rattle.rules.specs.Lists.{any, without}
 use Rattle.rules.specs.State.{State, lie, dirtyIn, isModified}
 use Rattle.rules.specs.Refusals.{free, onFrame}
-use Rattle.rules.specs.Paging.{owner, evict, load, unused}
+use Rattle.rules.specs.Paging.{owner, evict, load}
 use Rattle.rules.specs.Good.{Good, inUse, Apart, regionFits}
-use Rattle.rules.proofs.Lists.{all-false, length-without, any-push-old}
+use Rattle.rules.proofs.Lists.{never, all-false, length-without, any-push-old}
 use Rattle.rules.proofs.Queues.{has-push-same, has-push-other, apart-push, has-without-same, has-without-other, apart-without}
-
-never : {B : Type 0} → _≡_ {A = ℕ} 0 1 → B
-never e = absurd (omega arith)
 
 -- the word of an object page: that in its frame, else that of the backing store
 abbrev pub wordOf : State → ℕ → Option ℕ → ℕ
@@ -89,7 +86,8 @@ ready-unused s g room = record {
   dirty-used = g .dirty-used;
   clean = g .clean;
   wired-few = g .wired-few;
-  wired-used = g .wired-used }
+  wired-used = g .wired-used;
+}
   where
     new : inUse s (length (s .queue)) ≡ false
     new = ⊎-elim
@@ -122,8 +120,8 @@ module _ (s : State) (f : ℕ) (g : Good s) (used : inUse s f ≡ true) where
   lies-still x h e = ⊎-elim
       (λ (same : x ≡ owner s f). let gone : lie (evict s f) x ≡ None = ap (lie (evict s f)) same ∙ lie-evicted in never (cc))
       (λ (n : x ≡ owner s f → ⊥).
-        let was : lie s x ≡ Some h = sym (lie-evict x n) ∙ e in
-        (was, (λ q. n (sym (g .lies-owned x h was) ∙ ap (owner s) q)), n))
+      let was : lie s x ≡ Some h = sym (lie-evict x n) ∙ e in
+      (was, (λ q. n (sym (g .lies-owned x h was) ∙ ap (owner s) q)), n))
       (cases-eq x (owner s f))
 
   used-still : (h : ℕ) → (h ≡ f → ⊥) → inUse s h ≡ true → inUse (evict s f) h ≡ true
@@ -139,9 +137,9 @@ module _ (s : State) (f : ℕ) (g : Good s) (used : inUse s f ≡ true) where
       let b = used-before h u in
       let was : lie s (owner s h) ≡ Some h = g .owner-lies h (b .1) in
       let n : owner s h ≡ owner s f → ⊥ = (λ q. b .0 (
-        let here : lie s (owner s f) ≡ Some f = g .owner-lies f used in
-        let there : lie s (owner s h) ≡ lie s (owner s f) = ap (lie s) q in
-        cc)) in
+      let here : lie s (owner s f) ≡ Some f = g .owner-lies f used in
+      let there : lie s (owner s h) ≡ lie s (owner s f) = ap (lie s) q in
+      cc)) in
       lie-evict (owner s h) n ∙ was
 
   pub dirty-evict : (h : ℕ) → (h ≡ f → ⊥) → evict s f .dirty h ≡ s .dirty h
@@ -157,8 +155,8 @@ module _ (s : State) (f : ℕ) (g : Good s) (used : inUse s f ≡ true) where
     owners-long = g .owners-long;
     words-long = g .words-long;
     store-long = cond-both (s .dirty f) (set (s .store) (owner s f) (getD (s .words) f 0)) (s .store) (λ l. length l ≡ 2048)
-      (λ e. length-set (s .store) (owner s f) (getD (s .words) f 0) ∙ g .store-long)
-      (λ e. g .store-long);
+        (λ e. length-set (s .store) (owner s f) (getD (s .words) f 0) ∙ g .store-long)
+        (λ e. g .store-long);
     regions-few = g .regions-few;
     regions-fit = g .regions-fit;
     room = (let h = g .queue-few in omega (arith, fewer));
@@ -172,7 +170,8 @@ module _ (s : State) (f : ℕ) (g : Good s) (used : inUse s f ≡ true) where
     dirty-used = λ h d. (let b = and-parts (s .dirty h) (not (eqb h f)) d in used-still h (eqb-false h f (not-true (eqb h f) (b .1))) (g .dirty-used h (b .0)));
     clean = λ x h e d. (let b = lies-still x h e in g .clean x h (b .0) (sym (dirty-evict h (b .1)) ∙ d) ∙ sym (store-evict x (b .2)));
     wired-few = g .wired-few;
-    wired-used = wired-still (s .wired) (all-false (onFrame f) (s .wired) (not-true (any (onFrame f) (s .wired)) unwired)) (g .wired-used) }
+    wired-used = wired-still (s .wired) (all-false (onFrame f) (s .wired) (not-true (any (onFrame f) (s .wired)) unwired)) (g .wired-used);
+  }
     where
       fewer : length (without (eqb f) (s .queue)) + 1 ≡ length (s .queue)
       fewer = length-without (eqb f) (s .queue) used
@@ -186,9 +185,9 @@ module _ (s : State) (f : ℕ) (g : Good s) (used : inUse s f ≡ true) where
   pub content-evict : (y : ℕ) → content (evict s f) y ≡ content s y
   content-evict y = ⊎-elim
       (λ (same : y ≡ owner s f).
-        let now : content (evict s f) (owner s f) ≡ getD (s .words) f 0 = ap (wordOf (evict s f) (owner s f)) lie-evicted ∙ store-evicted in
-        let was : content s (owner s f) ≡ getD (s .words) f 0 = ap (wordOf s (owner s f)) (g .owner-lies f used) in
-        rw same (now ∙ sym was))
+      let now : content (evict s f) (owner s f) ≡ getD (s .words) f 0 = ap (wordOf (evict s f) (owner s f)) lie-evicted ∙ store-evicted in
+      let was : content s (owner s f) ≡ getD (s .words) f 0 = ap (wordOf s (owner s f)) (g .owner-lies f used) in
+      rw same (now ∙ sym was))
       (λ (n : y ≡ owner s f → ⊥). ap (wordOf (evict s f) y) (lie-evict y n) ∙ same-word y n (lie s y))
       (cases-eq y (owner s f))
     where
@@ -231,12 +230,12 @@ module _ (s : State) (x f : ℕ) (r : Ready s f) (low : x < 2048) (absent : lie 
   pub lies-load : (y h : ℕ) → lie (load s x f) y ≡ Some h → ((y ≡ x) × (h ≡ f)) ⊎ ((lie s y ≡ Some h) × (h ≡ f → ⊥) × (y ≡ x → ⊥))
   lies-load y h e = ⊎-elim
       (λ (same : y ≡ x).
-        let here : lie (load s x f) y ≡ Some f = ap (lie (load s x f)) same ∙ lie-loaded in
-        let frames : h ≡ f = cc in
-        inl (same, frames))
+      let here : lie (load s x f) y ≡ Some f = ap (lie (load s x f)) same ∙ lie-loaded in
+      let frames : h ≡ f = cc in
+      inl (same, frames))
       (λ (n : y ≡ x → ⊥).
-        let was : lie s y ≡ Some h = sym (lie-load y n) ∙ e in
-        inr (was, other-frame h (r .lies-used y h was), n))
+      let was : lie s y ≡ Some h = sym (lie-load y n) ∙ e in
+      inr (was, other-frame h (r .lies-used y h was), n))
       (cases-eq y x)
 
   used-cases : (h : ℕ) → inUse (load s x f) h ≡ true → (h ≡ f) ⊎ ((inUse s h ≡ true) × (h ≡ f → ⊥))
@@ -261,9 +260,9 @@ module _ (s : State) (x f : ℕ) (r : Ready s f) (low : x < 2048) (absent : lie 
   owner-lies-load h u = ⊎-elim
       (λ (q : h ≡ f). ap (λ k. lie (load s x f) (owner (load s x f) k)) q ∙ ap (lie (load s x f)) owner-loaded ∙ lie-loaded ∙ ap Some (sym q))
       (λ (b : (inUse s h ≡ true) × (h ≡ f → ⊥)).
-        let was : lie s (owner s h) ≡ Some h = r .owner-lies h (b .0) in
-        let n : owner s h ≡ x → ⊥ = (λ q. let there : lie s (owner s h) ≡ lie s x = ap (lie s) q in never (cc)) in
-        ap (lie (load s x f)) (owner-load h (b .1)) ∙ lie-load (owner s h) n ∙ was)
+      let was : lie s (owner s h) ≡ Some h = r .owner-lies h (b .0) in
+      let n : owner s h ≡ x → ⊥ = (λ q. let there : lie s (owner s h) ≡ lie s x = ap (lie s) q in never (cc)) in
+      ap (lie (load s x f)) (owner-load h (b .1)) ∙ lie-load (owner s h) n ∙ was)
       (used-cases h u)
 
   clean-load : (y h : ℕ) → lie (load s x f) y ≡ Some h → s .dirty h ≡ false → getD (load s x f .words) h 0 ≡ getD (s .store) y 0
@@ -283,32 +282,33 @@ module _ (s : State) (x f : ℕ) (r : Ready s f) (low : x < 2048) (absent : lie 
     regions-fit = r .regions-fit;
     queue-few = (let h = r .room in omega (arith, length-push (s .queue) f));
     queue-low = λ h u. ⊎-elim
-      (λ (q : h ≡ f). (let k = r .low in omega (arith, length-push (s .queue) f)))
-      (λ (b : (inUse s h ≡ true) × (h ≡ f → ⊥)). (let k = r .queue-low h (b .0) in omega (arith, length-push (s .queue) f)))
-      (used-cases h u);
+        (λ (q : h ≡ f). (let k = r .low in omega (arith, length-push (s .queue) f)))
+        (λ (b : (inUse s h ≡ true) × (h ≡ f → ⊥)). (let k = r .queue-low h (b .0) in omega (arith, length-push (s .queue) f)))
+        (used-cases h u);
     queue-apart = apart-push f (s .queue) (r .new) (r .queue-apart);
     lies-used = λ y h e. ⊎-elim
-      (λ (b : (y ≡ x) × (h ≡ f)). used-loaded h (b .1))
-      (λ (b : (lie s y ≡ Some h) × (h ≡ f → ⊥) × (y ≡ x → ⊥)). used-old h (r .lies-used y h (b .0)))
-      (lies-load y h e);
+        (λ (b : (y ≡ x) × (h ≡ f)). used-loaded h (b .1))
+        (λ (b : (lie s y ≡ Some h) × (h ≡ f → ⊥) × (y ≡ x → ⊥)). used-old h (r .lies-used y h (b .0)))
+        (lies-load y h e);
     lies-owned = λ y h e. ⊎-elim
-      (λ (b : (y ≡ x) × (h ≡ f)). ap (owner (load s x f)) (b .1) ∙ owner-loaded ∙ sym (b .0))
-      (λ (b : (lie s y ≡ Some h) × (h ≡ f → ⊥) × (y ≡ x → ⊥)). owner-load h (b .1) ∙ r .lies-owned y h (b .0))
-      (lies-load y h e);
+        (λ (b : (y ≡ x) × (h ≡ f)). ap (owner (load s x f)) (b .1) ∙ owner-loaded ∙ sym (b .0))
+        (λ (b : (lie s y ≡ Some h) × (h ≡ f → ⊥) × (y ≡ x → ⊥)). owner-load h (b .1) ∙ r .lies-owned y h (b .0))
+        (lies-load y h e);
     owner-lies = owner-lies-load;
     dirty-used = λ h d. used-old h (r .dirty-used h d);
     clean = clean-load;
     wired-few = r .wired-few;
-    wired-used = all-weaker (λ w. inUse s (w .frame) ≡ true) (λ w. inUse (load s x f) (w .frame) ≡ true) (λ w u. used-old (w .frame) u) (s .wired) (r .wired-used) }
+    wired-used = all-weaker (λ w. inUse s (w .frame) ≡ true) (λ w. inUse (load s x f) (w .frame) ≡ true) (λ w u. used-old (w .frame) u) (s .wired) (r .wired-used);
+  }
 
   -- no page's word changes, and none becomes modified
 
   pub content-load : (y : ℕ) → content (load s x f) y ≡ content s y
   content-load y = ⊎-elim
       (λ (same : y ≡ x).
-        let now : content (load s x f) x ≡ getD (s .store) x 0 = ap (wordOf (load s x f) x) lie-loaded ∙ word-loaded in
-        let was : content s x ≡ getD (s .store) x 0 = ap (wordOf s x) absent in
-        rw same (now ∙ sym was))
+      let now : content (load s x f) x ≡ getD (s .store) x 0 = ap (wordOf (load s x f) x) lie-loaded ∙ word-loaded in
+      let was : content s x ≡ getD (s .store) x 0 = ap (wordOf s x) absent in
+      rw same (now ∙ sym was))
       (λ (n : y ≡ x → ⊥). ap (wordOf (load s x f) y) (lie-load y n) ∙ same-word y (lie s y) refl)
       (cases-eq y x)
     where
@@ -319,9 +319,9 @@ module _ (s : State) (x f : ℕ) (r : Ready s f) (low : x < 2048) (absent : lie 
   pub modified-load : (y : ℕ) → isModified (load s x f) y ≡ isModified s y
   modified-load y = ⊎-elim
       (λ (same : y ≡ x).
-        let now : isModified (load s x f) x ≡ s .dirty f = ap (dirtyIn (s .dirty)) lie-loaded in
-        let was : isModified s x ≡ false = ap (dirtyIn (s .dirty)) absent in
-        rw same (now ∙ unmodified ∙ sym was))
+      let now : isModified (load s x f) x ≡ s .dirty f = ap (dirtyIn (s .dirty)) lie-loaded in
+      let was : isModified s x ≡ false = ap (dirtyIn (s .dirty)) absent in
+      rw same (now ∙ unmodified ∙ sym was))
       (λ (n : y ≡ x → ⊥). ap (dirtyIn (s .dirty)) (lie-load y n))
       (cases-eq y x)
     where

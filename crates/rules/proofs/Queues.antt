@@ -3,19 +3,15 @@ use mathlib.Core.Path.{_≡_, refl, sym, ap, _∙_}
 use mathlib.Core.Logic.{⊎-elim}
 use mathlib.Core.List.{List, [], _∷_, _++_}
 use mathlib.Core.Bool.{Bool, true, false, _||_}
-use Prim.Native.Nat.{ℕ, zero, suc, _+_, _<_, _≤_}
+use Prim.Native.Nat.{ℕ, zero, suc, _<_}
 use native.Mathlib.Omega.{arith}
 use lib.Dec.{eqb}
 use lib.ListN.{length, getD}
-use Rattle.std.proofs.shelf.Tests.{cases-bool, cases-eq, eq-eqb, ne-eqb, eqb-true, eqb-false, both-ways, or-parts, or-left, or-right}
-use Rattle.std.specs.declared.option.Option.{Option}
-use Rattle.std.specs.declared.option.Option.the-variants.{Some, None}
+use Rattle.std.proofs.shelf.Tests.{cases-bool, eq-eqb, ne-eqb, eqb-true, eqb-false, both-ways, or-parts, or-left, or-right}
+use Rattle.std.specs.declared.option.Option.the-variants.{Some}
 use Rattle.rules.specs.Lists.{first, any, without}
 use Rattle.rules.specs.Good.{Apart}
-use Rattle.rules.proofs.Lists.{any-push, any-push-other}
-
-never : {B : Type 0} → _≡_ {A = ℕ} 0 1 → B
-never e = absurd (omega arith)
+use Rattle.rules.proofs.Lists.{never, any-push, any-push-other}
 
 -- where a number stands
 
@@ -47,9 +43,9 @@ first-has test (x ∷ xs) f e = ⊎-elim
 pub apart-head : (x : ℕ) (xs : List ℕ) → Apart (x ∷ xs) → any (eqb x) xs ≡ false
 apart-head x xs apart = ⊎-elim
     (λ (t : any (eqb x) xs ≡ true).
-      let r = has-at x xs t in
-      let z : 0 ≡ suc (r .0) = apart 0 (suc (r .0)) (omega arith) (let h = r .1 in omega arith) (sym (r .2)) in
-      absurd (omega arith))
+    let r = has-at x xs t in
+    let z : 0 ≡ suc (r .0) = apart 0 (suc (r .0)) (omega arith) (let h = r .1 in omega arith) (sym (r .2)) in
+    absurd (omega arith))
     (λ (t : any (eqb x) xs ≡ false). t)
     (cases-bool (any (eqb x) xs))
 
@@ -76,8 +72,8 @@ apart-push f [] new apart = apart-cons f [] refl apart
 apart-push f (x ∷ xs) new apart =
     let parts = or-parts (eqb f x) (any (eqb f) xs) new in
     apart-cons x (xs ++ (f ∷ []))
-        (has-push-other x f xs (λ e. eqb-false f x (parts .0) (sym e)) ∙ apart-head x xs apart)
-        (apart-push f xs (parts .1) (apart-tail x xs apart))
+    (has-push-other x f xs (λ e. eqb-false f x (parts .0) (sym e)) ∙ apart-head x xs apart)
+    (apart-push f xs (parts .1) (apart-tail x xs apart))
 
 -- without one
 
@@ -103,6 +99,6 @@ apart-without f [] apart = apart
 apart-without f (x ∷ xs) apart = ⊎-elim
     (λ (t : eqb f x ≡ true). simp t (apart-tail x xs apart))
     (λ (t : eqb f x ≡ false). simp t (apart-cons x (without (eqb f) xs)
-        (has-without-other x f xs (λ e. eqb-false f x t (sym e)) ∙ apart-head x xs apart)
-        (apart-without f xs (apart-tail x xs apart))))
+    (has-without-other x f xs (λ e. eqb-false f x t (sym e)) ∙ apart-head x xs apart)
+    (apart-without f xs (apart-tail x xs apart))))
     (cases-bool (eqb f x))

@@ -1,0 +1,5 @@
+pub mod Firsts
+pub mod Matching
+pub mod Ranging
+pub mod StoredPages
+pub mod Evictions

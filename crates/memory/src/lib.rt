@@ -1,0 +1,4 @@
+// The memory: resident pages over any pmap.
+mod pages;
+pub mod memory;
+mod paging;
