@@ -2,3 +2,4 @@
 pub mod memory;
 mod pages;
 mod paging;
+mod reaching;
