@@ -1,14 +1,16 @@
 -- An access carried to its frame: a hit, or a fault and the access again. Assumes nothing.
 use mathlib.Core.Path.{_≡_, refl, sym, ap, subst, _∙_, fun-ext}
 use mathlib.Core.Logic.{_⊎_, inl, inr, ⊎-elim}
-use mathlib.Core.Bool.{Bool, true, false, cond, not, _&&_, _||_}
-use Prim.Native.Nat.{ℕ, _<_, _≤_}
+use mathlib.Core.Bool.{Bool, true, false, cond}
+use Prim.Native.Nat.{ℕ}
 use native.Mathlib.Omega.{arith}
-use lib.Dec.{eqb}
-use Rattle.std.proofs.shelf.Tests.{cases-bool, cond-true, cond-false, both-ways, eq-eqb, or-left, or-right}
+use Rattle.std.proofs.shelf.Tests.{cases-bool, cond-true, cond-false, both-ways, and-parts, and-from, lt-ltb}
 use Rattle.std.specs.declared.option.Option.{Option}
 use Rattle.std.specs.declared.option.Option.the-variants.{Some, None}
-use Rattle.pmap.specs.Meaning.{Mapping, View, Same, Stays, Elsewhere, PutForgetting, isWired, allows, answered, marked}
+use Rattle.refusal.specs.declared.pmap.PmapRefusal.{PmapRefusal}
+use Rattle.refusal.specs.declared.pmap.PmapRefusal.the-variants.{Range, WiredFull}
+use Rattle.pmap.specs.Ranges.{fitsPlace, fitsProtection, fitsEntry}
+use Rattle.pmap.specs.Meaning.{Mapping, View, EnterRefused, Stays, Elsewhere, PutForgetting, isWired, allows, answered, marked}
 use Rattle.pmap.specs.declared.access.Access.{Access}
 use Rattle.pmap.specs.declared.access.Access.the-variants.{Hit, Miss}
 use Rattle.rules.specs.declared.answer.Kind.{Kind}
@@ -21,6 +23,8 @@ use Rattle.rules.specs.State.{State, lie, pageIn}
 use Rattle.rules.specs.Refusals.{cover}
 use Rattle.rules.specs.Paging.{resident, residentBy, evictedBy}
 use Rattle.rules.specs.Rules.{pageAt, objectPage, reportOf, kindOf}
+use Rattle.rules.specs.Good.{Good, regionFits}
+use Rattle.rules.proofs.Loads.{used-low}
 use Rattle.tables.specs.Held.{withDirty}
 use Rattle.memory.specs.Matches.{Matches}
 use Rattle.memory.specs.Ready.{Brings, serves, evictee, droppedBy, isNone}
@@ -124,3 +128,15 @@ module _ (v x y w : View) (s t : State) (a p f g : ℕ) (write loaded : Bool) (o
           stays-trans (droppedBy (evictee s (lie s (pageAt s a p))) (v .held c d)) (y .held c d) (w .held c d)
             (subst (λ z. Stays z (y .held c d)) (brings .held c d ∙ ap (λ z. droppedBy (evictee s (lie s z)) (v .held c d)) (sym at)) (puts .others c d far))
             (keeps .others c d far) }) }
+
+-- an unwired enter of numbers in range is not refused
+pub enter-passes : (v : View) (a p f q : ℕ) (e : PmapRefusal) → fitsEntry a p f q ≡ true → EnterRefused v a p f q false e → ⊥
+enter-passes v a p f q Range fits refused = both-ways _ refused fits
+enter-passes v a p f q WiredFull fits refused = both-ways false refl (refused .1)
+
+-- the numbers of an enter for a covered place are in range
+pub entry-fits : (s : State) (a p x f : ℕ) (r : Region) → Good s → fitsPlace a p ≡ true → regionFits r → lie s x ≡ Some f → fitsEntry a p f (r .protection) ≡ true
+entry-fits s a p x f r good place fits lies =
+    let low = used-low s f good (good .lies-used x f lies) in
+    let parts = and-parts (fitsPlace (r .space) (r .first)) _ fits in
+    and-from _ _ place (and-from _ _ (lt-ltb _ _ low) (and-parts (fitsProtection (r .protection)) _ (parts .1) .0))
