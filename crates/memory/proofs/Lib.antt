@@ -5,3 +5,4 @@ pub mod StoredPages
 pub mod Evictions
 pub mod Bringing
 pub mod Reached
+pub mod Same

@@ -3,8 +3,9 @@ use mathlib.Core.Path.{_≡_, refl, sym, ap, subst, _∙_, fun-ext}
 use mathlib.Core.Logic.{_⊎_, inl, inr, ⊎-elim}
 use mathlib.Core.Bool.{Bool, true, false, cond}
 use Prim.Native.Nat.{ℕ}
+use lib.Dec.{eqb}
 use native.Mathlib.Omega.{arith}
-use Rattle.std.proofs.shelf.Tests.{cases-bool, cond-true, cond-false, both-ways, and-parts, and-from, lt-ltb}
+use Rattle.std.proofs.shelf.Tests.{cases-bool, cond-true, cond-false, both-ways, and-parts, and-from, or-cases, eqb-true, lt-ltb}
 use Rattle.std.specs.declared.option.Option.{Option}
 use Rattle.std.specs.declared.option.Option.the-variants.{Some, None}
 use Rattle.refusal.specs.declared.pmap.PmapRefusal.{PmapRefusal}
@@ -20,7 +21,7 @@ use Rattle.rules.specs.declared.answer.Evicted.the-variants.{Nothing}
 use Rattle.rules.specs.declared.answer.Report.{Report}
 use Rattle.rules.specs.declared.region.Region.{Region}
 use Rattle.rules.specs.State.{State, lie, pageIn}
-use Rattle.rules.specs.Refusals.{cover}
+use Rattle.rules.specs.Refusals.{cover, wantsFrame}
 use Rattle.rules.specs.Paging.{resident, residentBy, evictedBy}
 use Rattle.rules.specs.Rules.{pageAt, objectPage, reportOf, kindOf}
 use Rattle.rules.specs.Good.{Good, regionFits}
@@ -80,6 +81,7 @@ reaches-hit v w s a p f write fits dirty hit put =
     let lies : lie s (pageAt s a p) ≡ Some f = ap (lie s) (page-at s a p (x .region) (x .covers)) ∙ x .lies ∙ ap Some (is .1 .2) in
     let still : resident s (pageAt s a p) ≡ s = ap (residentBy s (pageAt s a p)) lies in
     record {
+      room = ap (wantsFrame s) lies;
       reported = sym (ap (λ z. record { kind = kindOf z (lie s (pageAt s a p)); evicted = evictedBy s (lie s (pageAt s a p)) }) (is .0) ∙ ap (λ z. record { kind = HitKind; evicted = evictedBy s z }) lies);
       lies = ap (λ z. lie z (pageAt s a p)) still ∙ lies;
       state = ap (withDirty s) (put .marked ∙ ap (λ d. marked d write f) (sym dirty)) ∙ sym (ap (λ z. withDirty z (marked (z .dirty) write f)) still);
@@ -112,6 +114,7 @@ module _ (v x y w : View) (s t : State) (a p f g : ℕ) (write loaded : Bool) (o
 
   pub reaches-fault : Reaches v w s (withDirty t (w .modified)) a p write g (record { kind = cond loaded Hard Soft; evicted = out })
   reaches-fault = record {
+      room = ap (λ z. wantsFrame s (lie s z)) at ∙ brings .room;
       reported =
         ap (λ z. record { kind = z; evicted = out }) (kind-is (lie s (pageIn r p)) (brings .told))
         ∙ ap (λ z. record { kind = kindOf false (lie s (pageIn r p)); evicted = z }) (brings .out)
@@ -140,3 +143,12 @@ entry-fits s a p x f r good place fits lies =
     let low = used-low s f good (good .lies-used x f lies) in
     let parts = and-parts (fitsPlace (r .space) (r .first)) _ fits in
     and-from _ _ place (and-from _ _ (lt-ltb _ _ low) (and-parts (fitsProtection (r .protection)) _ (parts .1) .0))
+
+-- a protection that is not 1 is 3
+pub right-is : (r : Region) → regionFits r → (r .protection ≡ 1 → ⊥) → r .protection ≡ 3
+right-is r fits far =
+    let parts = and-parts (fitsPlace (r .space) (r .first)) _ fits in
+    ⊎-elim
+      (λ e. absurd (far (eqb-true _ _ e)))
+      (λ e. eqb-true _ _ e)
+      (or-cases (eqb (r .protection) 1) (eqb (r .protection) 3) (and-parts (fitsProtection (r .protection)) _ (parts .1) .0))

@@ -24,6 +24,7 @@ accessRefusal s a p write =
 
 -- the access came to a frame: the report, the frame of the object page, the state and what is left in the pmap
 pub record Reaches (v w : View) (s t : State) (a p : ℕ) (write : Bool) (frame : ℕ) (report : Report) : Type 0 where
+  pub room : wantsFrame s (lie s (pageAt s a p)) ≡ None
   pub reported : report ≡ reportOf s (pageAt s a p) (serves (v .held a p) write)
   pub lies : lie (resident s (pageAt s a p)) (pageAt s a p) ≡ Some frame
   pub state : t ≡ withDirty (resident s (pageAt s a p)) (marked (resident s (pageAt s a p) .dirty) write frame)

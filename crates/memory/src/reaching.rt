@@ -48,4 +48,26 @@ impl<P: Pmap> Memory<P> {
         let kind = if brought.loaded { Kind::Hard } else { Kind::Soft };
         Ok(Reached { frame, report: Report { kind, evicted: brought.evicted } })
     }
+
+    // The frame of the place's object page: a hit, or a fault.
+    pub fn reach(&mut self, space: u8, page: u32, write: bool) -> Result<Reached, MemoryRefusal>
+        requires kept { ⌜ kept (now self .pmap) ⌝ }
+        requires ready { ⌜ Ready (view (now self .pmap)) (memoryState (view (now self .pmap)) (now self .tables) (now self .counts)) ⌝ }
+        ensures reaches { λ r. ⌜ Cases r (λ x. (accessRefusal (memoryState (view (now (self .entry) .pmap)) (now (self .entry) .tables) (now (self .entry) .counts)) space page write ≡ None) × Reaches (view (now (self .entry) .pmap)) (view (now (self .exit) .pmap)) (memoryState (view (now (self .entry) .pmap)) (now (self .entry) .tables) (now (self .entry) .counts)) (memoryState (view (now (self .exit) .pmap)) (now (self .exit) .tables) (now (self .exit) .counts)) space page write (x .frame) (x .report)) (λ e. (accessRefusal (memoryState (view (now (self .entry) .pmap)) (now (self .entry) .tables) (now (self .entry) .counts)) space page write ≡ Some e) × Unmoved (view (now (self .entry) .pmap)) (view (now (self .exit) .pmap)) (memoryState (view (now (self .entry) .pmap)) (now (self .entry) .tables) (now (self .entry) .counts)) (memoryState (view (now (self .exit) .pmap)) (now (self .exit) .tables) (now (self .exit) .counts))) ⌝ }
+        ensures kept { λ _. ⌜ kept (now (self .exit) .pmap) ⌝ }
+    {
+        if !fits_place(space, page) {
+            return Err(MemoryRefusal::Range);
+        }
+        let Some(region) = self.tables.cover(space, page) else {
+            return Err(MemoryRefusal::NoRegion);
+        };
+        if write && region.protection == 1 {
+            return Err(MemoryRefusal::ReadOnly);
+        }
+        let Access::Hit(frame) = self.pmap.access(space, page, write)? else {
+            return self.fault(region, space, page, write);
+        };
+        Ok(Reached { frame, report: Report { kind: Kind::Hit, evicted: Evicted::Nothing } })
+    }
 }
