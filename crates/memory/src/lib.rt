@@ -2,3 +2,6 @@
 mod pages;
 pub mod memory;
 mod paging;
+mod regions;
+mod syncing;
+mod unwiring;
