@@ -6,3 +6,5 @@ pub mod Evictions
 pub mod Bringing
 pub mod Reached
 pub mod Same
+pub mod Serving
+pub mod Syncs

@@ -5,3 +5,4 @@ pub mod Ready
 pub mod Evicting
 pub mod Leaves
 pub mod Reaching
+pub mod Replies

@@ -3,3 +3,6 @@ pub mod memory;
 mod pages;
 mod paging;
 mod reaching;
+mod regions;
+mod syncing;
+mod unwiring;
