@@ -8,3 +8,4 @@ pub mod Reached
 pub mod Same
 pub mod Serving
 pub mod Syncs
+pub mod AccessRules

@@ -10,7 +10,10 @@ use Rattle.std.specs.declared.result.Result.{Result}
 use Rattle.std.specs.declared.result.Result.the-variants.{Ok, Err}
 use Rattle.refusal.specs.declared.memory.MemoryRefusal.{MemoryRefusal}
 use Rattle.pmap.specs.Meaning.{View, lowered}
-use Rattle.rules.specs.declared.answer.Answer.the-variants.{Done, Synced}
+use Rattle.rules.specs.declared.answer.Answer.the-variants.{Done, Read as ReadAnswer, Wrote, Wired, Synced}
+use Rattle.rules.specs.declared.answer.Reading.{Reading}
+use Rattle.rules.specs.declared.answer.Report.{Report}
+use Rattle.rules.specs.declared.answer.Wiring.{Wiring}
 use Rattle.rules.specs.declared.counts.Counts.{Counts}
 use Rattle.rules.specs.declared.region.Region.{Region}
 use Rattle.rules.specs.Lists.{first, place}
@@ -30,6 +33,19 @@ doneReply (Err e) = Err e
 abbrev pub syncedReply : Result ℕ MemoryRefusal → Reply
 syncedReply (Ok n) = Ok (Synced n)
 syncedReply (Err e) = Err e
+
+-- a read, a write and a wire answer their reports
+abbrev pub readReply : Result Reading MemoryRefusal → Reply
+readReply (Ok x) = Ok (ReadAnswer x)
+readReply (Err e) = Err e
+
+abbrev pub wroteReply : Result Report MemoryRefusal → Reply
+wroteReply (Ok x) = Ok (Wrote x)
+wroteReply (Err e) = Err e
+
+abbrev pub wiredReply : Result Wiring MemoryRefusal → Reply
+wiredReply (Ok x) = Ok (Wired x)
+wiredReply (Err e) = Err e
 
 -- a region begins at the page and has no wired place: its position
 pub record FreeAt (s : State) (a p at : ℕ) : Type 0 where

@@ -1,4 +1,5 @@
 // The memory: resident pages over any pmap.
+mod accesses;
 pub mod memory;
 mod pages;
 mod paging;
@@ -6,3 +7,4 @@ mod reaching;
 mod regions;
 mod syncing;
 mod unwiring;
+mod wiring;
