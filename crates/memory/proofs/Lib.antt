@@ -5,3 +5,4 @@ pub mod StoredPages
 pub mod Evictions
 pub mod Serving
 pub mod Syncs
+pub mod ReadyKept
