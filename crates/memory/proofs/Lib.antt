@@ -3,6 +3,9 @@ pub mod Matching
 pub mod Ranging
 pub mod StoredPages
 pub mod Evictions
+pub mod Bringing
+pub mod Reached
+pub mod Same
 pub mod Serving
 pub mod Syncs
 pub mod ReadyKept

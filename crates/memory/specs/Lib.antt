@@ -4,4 +4,5 @@ pub mod Storing
 pub mod Ready
 pub mod Evicting
 pub mod Leaves
+pub mod Reaching
 pub mod Replies

@@ -1,7 +1,8 @@
 // The memory: resident pages over any pmap.
-mod pages;
 pub mod memory;
+mod pages;
 mod paging;
+mod reaching;
 mod regions;
 mod syncing;
 mod unwiring;
