@@ -9,3 +9,4 @@ pub mod Same
 pub mod Serving
 pub mod Syncs
 pub mod AccessRules
+pub mod ReadyKept

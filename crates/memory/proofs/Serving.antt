@@ -1,19 +1,19 @@
 -- From the steps of a call to what the call serves: refusals, regions and unwiring. Assumes nothing.
 use mathlib.Core.Path.{_≡_, refl, sym, ap, subst, _∙_}
-use mathlib.Core.List.{[], _∷_, _++_}
+use mathlib.Core.Logic.{inl}
 use mathlib.Core.Bool.{Bool, true, false, cond, not, _&&_}
-use Prim.Native.Nat.{ℕ, _+_, _<_, _≤_}
-use lib.Dec.{eqb, leb}
+use Prim.Native.Nat.{ℕ, _<_}
+use lib.Dec.{eqb}
 use lib.ListN.{length, getD, set}
 use Rattle.std.specs.Holes.{removed}
-use Rattle.std.proofs.shelf.Tests.{cond-true, cond-false, not-from-true, not-from-false, lt-leb, le-leb, ne-eqb, and-right}
+use Rattle.std.proofs.shelf.Tests.{cond-true, cond-false, not-from-true, lt-leb, ne-eqb, and-right}
 use Rattle.std.specs.declared.option.Option.{Option}
 use Rattle.std.specs.declared.option.Option.the-variants.{Some, None}
 use Rattle.std.specs.declared.result.Result.the-variants.{Ok, Err}
 use Rattle.refusal.specs.declared.memory.MemoryRefusal.{MemoryRefusal}
-use Rattle.refusal.specs.declared.memory.MemoryRefusal.the-variants.{Range, Overlap, RegionsFull, NoRegion, Wired, NotWired}
+use Rattle.refusal.specs.declared.memory.MemoryRefusal.the-variants.{Range, Overlap, NoRegion, Wired}
 use Rattle.pmap.specs.Ranges.{fitsPlace, fitsProtection}
-use Rattle.pmap.specs.Meaning.{Mapping, View, Same, PutForgetting, Stays, Elsewhere, Unwired, lowered}
+use Rattle.pmap.specs.Meaning.{Mapping, View, Unwired, lowered}
 use Rattle.calls.specs.declared.Call.{Call}
 use Rattle.calls.specs.declared.Call.the-variants.{Map, Unmap, Protect, Unwire}
 use Rattle.rules.specs.declared.answer.Answer.the-variants.{Done}
@@ -24,32 +24,29 @@ use Rattle.rules.specs.Refusals.{refuse, begins, covers, overlaps, isPlace, inR
 use Rattle.rules.specs.Rules.{answer, moved, movedBy, replyBy, mapped, withRegions, withWired, withProtection}
 use Rattle.rules.specs.Good.{Good, regionFits}
 use Rattle.rules.proofs.Lists.{first-all-of}
-use Rattle.rules.proofs.Accepted.{Fits, fits}
 use Rattle.tables.specs.Held.{withDirty}
 use Rattle.tables.proofs.Positions.{place-first, removed-is, set-is, nowhere-first}
 use Rattle.memory.specs.Ready.{hits}
 use Rattle.memory.specs.Leaves.{Leaves, LeavesBy, Serves, Unwires, unwiredMark, unmappedAt, protectedAt}
 use Rattle.memory.specs.Ranges.{within, Over, nothing}
 use Rattle.memory.specs.Replies.{FreeAt, Restricts}
-use mathlib.Core.Logic.{_⊎_, inl, inr}
 
 -- a call that is refused, and one that is not
 pub refused : (v : View) (s : State) (c : Call) (e : MemoryRefusal) → callRefusal s c ≡ Some e → Serves v v s s c (Err e)
 refused v s c e h = record {
-    answer = sym (ap (replyBy s c (hits v c)) h);
-    state = sym (ap (movedBy s c) h);
-    view = subst (Leaves v v s c) (sym h) (λ a b. refl) }
+  answer = sym (ap (replyBy s c (hits v c)) h);
+  state = sym (ap (movedBy s c) h);
+  view = subst (Leaves v v s c) (sym h) (λ a b. refl);
+}
 
 pub accepted : (v w : View) (s t : State) (c : Call) → callRefusal s c ≡ None → t ≡ moved s c → LeavesBy v w s c → Serves v w s t c (Ok (answer s c (hits v c)))
 accepted v w s t c h is leaves = record {
-    answer = sym (ap (replyBy s c (hits v c)) h);
-    state = is ∙ sym (ap (movedBy s c) h);
-    view = subst (Leaves v w s c) (sym h) leaves }
+  answer = sym (ap (replyBy s c (hits v c)) h);
+  state = is ∙ sym (ap (movedBy s c) h);
+  view = subst (Leaves v w s c) (sym h) leaves;
+}
 
--- the first test that holds refuses
-pub out-of-range : (b : Bool) (o : Option MemoryRefusal) → b ≡ false → refuse (not b) Range o ≡ Some Range
-out-of-range b o e = cond-true _ _ _ (not-from-false b e)
-
+-- a test that does not hold does not refuse
 pub passes : (b : Bool) (e : MemoryRefusal) (o : Option MemoryRefusal) → b ≡ false → refuse b e o ≡ o
 passes b e o h = cond-false _ _ _ h
 
@@ -66,12 +63,6 @@ module _ (v w : View) (s : State) (a p : ℕ) where
   marks-unwired None same = same .marks
   marks-unwired (Some m) put = put .marked
 
-  pub unwire-range : fitsPlace a p ≡ false → callRefusal s (Unwire a p) ≡ Some Range
-  unwire-range e = out-of-range (fitsPlace a p) _ e
-
-  pub unwire-not : fitsPlace a p ≡ true → any (isPlace a p) (s .wired) ≡ false → callRefusal s (Unwire a p) ≡ Some NotWired
-  unwire-not e n = in-range (fitsPlace a p) _ e ∙ cond-true _ _ _ (not-from-false _ n)
-
   pub unwire-served : (t : State) → fitsPlace a p ≡ true → any (isPlace a p) (s .wired) ≡ true → Unwired v w a p (v .held a p) → s .dirty ≡ v .modified → t ≡ withWired (withDirty s (w .modified)) (without (isPlace a p) (s .wired)) → Serves v w s t (Unwire a p) (Ok Done)
   unwire-served t e y un own is = accepted v w s t (Unwire a p)
       (in-range (fitsPlace a p) _ e ∙ cond-false _ _ _ (not-from-true _ y))
@@ -80,15 +71,6 @@ module _ (v w : View) (s : State) (a p : ℕ) where
 
 -- map
 module _ (v : View) (s : State) (a p count object offset q : ℕ) where
-  pub map-range : fitsMap a p count object offset q ≡ false → callRefusal s (Map a p count object offset q) ≡ Some Range
-  map-range e = out-of-range (fitsMap a p count object offset q) _ e
-
-  pub map-overlap : fitsMap a p count object offset q ≡ true → any (overlaps a p count) (s .regions) ≡ true → callRefusal s (Map a p count object offset q) ≡ Some Overlap
-  map-overlap e o = in-range (fitsMap a p count object offset q) _ e ∙ cond-true _ _ _ o
-
-  pub map-full : fitsMap a p count object offset q ≡ true → any (overlaps a p count) (s .regions) ≡ false → 64 ≤ length (s .regions) → callRefusal s (Map a p count object offset q) ≡ Some RegionsFull
-  map-full e o f = in-range (fitsMap a p count object offset q) _ e ∙ passes _ Overlap _ o ∙ cond-true _ _ _ (le-leb _ _ f)
-
   pub map-served : (t : State) → fitsMap a p count object offset q ≡ true → any (overlaps a p count) (s .regions) ≡ false → length (s .regions) < 64 → t ≡ withRegions s (mapped (s .regions) a p count object offset q) → Serves v v s t (Map a p count object offset q) (Ok Done)
   map-served t e o f is = accepted v v s t (Map a p count object offset q)
       (in-range (fitsMap a p count object offset q) _ e ∙ passes _ Overlap _ o ∙ cond-false _ _ _ (lt-leb _ _ f))
@@ -113,12 +95,6 @@ module _ (s : State) (a p : ℕ) where
     pub region-fits : Good s → regionFits r
     region-fits g = first-all-of (begins a p) regionFits (s .regions) r (g .regions-fit) region-first
 
-  pub unmap-refused : (e : MemoryRefusal) → fitsPlace a p ≡ true → regionRefusal s (first (begins a p) (s .regions)) ≡ Some e → callRefusal s (Unmap a p) ≡ Some e
-  unmap-refused e h n = in-range (fitsPlace a p) _ h ∙ n
-
-  pub protect-refused : (q : ℕ) (e : MemoryRefusal) → (fitsPlace a p && fitsProtection q) ≡ true → regionRefusal s (first (begins a p) (s .regions)) ≡ Some e → callRefusal s (Protect a p q) ≡ Some e
-  protect-refused q e h n = in-range (fitsPlace a p && fitsProtection q) _ h ∙ n
-
 module _ (v w : View) (s t : State) (a p at : ℕ) (r : Region) (free : FreeAt s a p at) (is : r ≡ getD (s .regions) at r) (own : s .dirty ≡ v .modified) where
   pub unmap-served : fitsPlace a p ≡ true → Over nothing v w (r .space) (r .first) (r .count) → t ≡ withRegions (withDirty s (w .modified)) (removed (s .regions) at) → Serves v w s t (Unmap a p) (Ok Done)
   unfolding within
@@ -131,7 +107,7 @@ module _ (v w : View) (s t : State) (a p at : ℕ) (r : Region) (free : FreeAt s
   protect-served q e low end = accepted v w s t (Protect a p q)
       (in-range (fitsPlace a p && fitsProtection q) _ e ∙ free .free)
       (end ∙ ap (λ d. withRegions (withDirty s d) (set (s .regions) at (withProtection q (getD (s .regions) at r)))) (low .marks ∙ sym own)
-        ∙ ap (withRegions s) (set-is (begins a p) (s .regions) (withProtection q) at r (free .found)))
+      ∙ ap (withRegions s) (set-is (begins a p) (s .regions) (withProtection q) at r (free .found)))
       (λ c d. low .held c d ∙ sym (ap (λ o. protectedAt q o c d (v .held c d)) (region-first s a p at r (free .found) is)))
 
 -- a region's protection changes
@@ -143,7 +119,8 @@ module _ (v : View) (r : Region) (q : ℕ) where
   unfolding within
   restricts w one over = record {
     held = λ a b. over .held a b ∙ ap (λ z. cond z (lowered (v .held a b)) (v .held a b)) (sym (and-true (covers a b r)) ∙ ap (λ z. covers a b r && eqb z 1) (sym one));
-    marks = over .marks }
+    marks = over .marks;
+  }
     where
       and-true : (b : Bool) → (b && true) ≡ b
       and-true true = refl

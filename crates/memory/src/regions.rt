@@ -15,6 +15,7 @@ use crate::memory::Memory;
 use crate::pages::lower_pages;
 use crate::pages::remove_pages;
 use pmap::interface::Pmap;
+use pmap::range::PAGES;
 use pmap::range::fits_place;
 use refusal::memory::MemoryFromPmap;
 use refusal::memory::MemoryRefusal;
@@ -28,8 +29,8 @@ fn fits_map(space: u8, page: u32, count: u16, object: u8, offset: u8, protection
     fits_protect(space, page, protection)
         && object < 8
         && 0 < count
-        && u64::from(page) + u64::from(count) <= 262_144
-        && u16::from(offset) as u32 + u32::from(count) <= 256
+        && u32::from(count) <= PAGES - page
+        && count <= 256 - u16::from(offset)
 }
 
 // Whether the numbers of a protect are all in range.
@@ -40,7 +41,11 @@ fn fits_protect(space: u8, page: u32, protection: u8) -> bool
 }
 
 // Lowers the mappings of a region's pages if its protection becomes 1.
-fn restrict_region<P: Pmap>(pmap: &mut P, region: &Region, protection: u8) -> Result<(), PmapRefusal>
+fn restrict_region<P: Pmap>(
+    pmap: &mut P,
+    region: &Region,
+    protection: u8,
+) -> Result<(), PmapRefusal>
     requires { ⌜ kept (now pmap) ⌝ ∗ ⌜ regionFits (now region) ⌝ }
     ensures passes { λ r. ⌜ isOk r ≡ true ⌝ }
     ensures restricted { λ _. ⌜ Restricts (view (now (pmap .entry))) (view (now (pmap .exit))) (now (region .entry)) protection ⌝ }
@@ -54,7 +59,7 @@ fn restrict_region<P: Pmap>(pmap: &mut P, region: &Region, protection: u8) -> Re
 
 impl<P: Pmap> Memory<P> {
     // Adds a region.
-    pub fn map_region(
+    pub(crate) fn map_region(
         &mut self,
         space: u8,
         page: u32,
@@ -76,7 +81,14 @@ impl<P: Pmap> Memory<P> {
         if self.tables.regions.len() >= 64 {
             return Err(MemoryRefusal::RegionsFull);
         }
-        self.tables.add_region(Region { space, first: page, count, object, offset, protection });
+        self.tables.add_region(Region {
+            space,
+            first: page,
+            count,
+            object,
+            offset,
+            protection,
+        });
         Ok(())
     }
 
@@ -94,7 +106,7 @@ impl<P: Pmap> Memory<P> {
     }
 
     // Removes a region and the mappings of its pages.
-    pub fn unmap_region(&mut self, space: u8, page: u32) -> Result<(), MemoryRefusal>
+    pub(crate) fn unmap_region(&mut self, space: u8, page: u32) -> Result<(), MemoryRefusal>
         requires { ⌜ kept (now self .pmap) ⌝ ∗ ⌜ Ready (view (now self .pmap)) (memoryState (view (now self .pmap)) (now self .tables) (now self .counts)) ⌝ }
         ensures serves { λ r. ⌜ Serves (view (now (self .entry) .pmap)) (view (now (self .exit) .pmap)) (memoryState (view (now (self .entry) .pmap)) (now (self .entry) .tables) (now (self .entry) .counts)) (memoryState (view (now (self .exit) .pmap)) (now (self .exit) .tables) (now (self .exit) .counts)) (Unmap space page) (doneReply r) ⌝ }
         ensures kept { λ _. ⌜ kept (now (self .exit) .pmap) ⌝ }
@@ -110,7 +122,12 @@ impl<P: Pmap> Memory<P> {
     }
 
     // Changes the protection of a region.
-    pub fn protect_region_at(&mut self, space: u8, page: u32, protection: u8) -> Result<(), MemoryRefusal>
+    pub(crate) fn protect_region_at(
+        &mut self,
+        space: u8,
+        page: u32,
+        protection: u8,
+    ) -> Result<(), MemoryRefusal>
         requires { ⌜ kept (now self .pmap) ⌝ ∗ ⌜ Ready (view (now self .pmap)) (memoryState (view (now self .pmap)) (now self .tables) (now self .counts)) ⌝ }
         ensures serves { λ r. ⌜ Serves (view (now (self .entry) .pmap)) (view (now (self .exit) .pmap)) (memoryState (view (now (self .entry) .pmap)) (now (self .entry) .tables) (now (self .entry) .counts)) (memoryState (view (now (self .exit) .pmap)) (now (self .exit) .tables) (now (self .exit) .counts)) (Protect space page protection) (doneReply r) ⌝ }
         ensures kept { λ _. ⌜ kept (now (self .exit) .pmap) ⌝ }

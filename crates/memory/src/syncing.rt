@@ -25,7 +25,7 @@ fn store_object<P: Pmap>(object: u8, pmap: &mut P, tables: &mut Tables) -> Resul
 
 impl<P: Pmap> Memory<P> {
     // Stores the modified pages of an object, and says how many there were.
-    pub fn sync_object(&mut self, object: u8) -> Result<u32, MemoryRefusal>
+    pub(crate) fn sync_object(&mut self, object: u8) -> Result<u32, MemoryRefusal>
         requires { ⌜ kept (now self .pmap) ⌝ ∗ ⌜ Ready (view (now self .pmap)) (memoryState (view (now self .pmap)) (now self .tables) (now self .counts)) ⌝ }
         ensures serves { λ r. ⌜ Serves (view (now (self .entry) .pmap)) (view (now (self .exit) .pmap)) (memoryState (view (now (self .entry) .pmap)) (now (self .entry) .tables) (now (self .entry) .counts)) (memoryState (view (now (self .exit) .pmap)) (now (self .exit) .tables) (now (self .exit) .counts)) (Sync object) (syncedReply r) ⌝ }
         ensures kept { λ _. ⌜ kept (now (self .exit) .pmap) ⌝ }

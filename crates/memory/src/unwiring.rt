@@ -11,7 +11,7 @@ use refusal::memory::MemoryRefusal;
 
 impl<P: Pmap> Memory<P> {
     // Takes the wired mark off at a place.
-    pub fn unwire_place(&mut self, space: u8, page: u32) -> Result<(), MemoryRefusal>
+    pub(crate) fn unwire_place(&mut self, space: u8, page: u32) -> Result<(), MemoryRefusal>
         requires { ⌜ kept (now self .pmap) ⌝ ∗ ⌜ Ready (view (now self .pmap)) (memoryState (view (now self .pmap)) (now self .tables) (now self .counts)) ⌝ }
         ensures serves { λ r. ⌜ Serves (view (now (self .entry) .pmap)) (view (now (self .exit) .pmap)) (memoryState (view (now (self .entry) .pmap)) (now (self .entry) .tables) (now (self .entry) .counts)) (memoryState (view (now (self .exit) .pmap)) (now (self .exit) .tables) (now (self .exit) .counts)) (Unwire space page) (doneReply r) ⌝ }
         ensures kept { λ _. ⌜ kept (now (self .exit) .pmap) ⌝ }

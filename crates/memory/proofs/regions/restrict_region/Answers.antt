@@ -8,12 +8,14 @@ lower-pages-requires g c κs = let n = fits (c .args .region .now) (c .pre .1) i
 
 pub returns-then-protection-ne1 : need.returns-then-protection-ne1
 returns-then-protection-ne1 g c = record {
-    passes = refl;
-    restricted = restricts-not (g .P·Pmap .view (c .args .pmap .now)) (c .args .region .now) (c .args .protection) (c .if-protection-ne1 .taken);
-    kept = c .pre .0 }
+  passes = refl;
+  restricted = restricts-not (g .P·Pmap .view (c .args .pmap .now)) (c .args .region .now) (c .args .protection) (c .if-protection-ne1 .taken);
+  kept = c .pre .0;
+}
 
 pub returns : need.returns
 returns g c = record {
-    passes = c .lower-pages .ensures .passes;
-    restricted = restricts (g .P·Pmap .view (c .args .pmap .now)) (c .args .region .now) (c .args .protection) (g .P·Pmap .view (c .lower-pages .last .pmap)) (c .if-protection-ne1 .left) (c .lower-pages .ensures .lowered);
-    kept = c .lower-pages .ensures .kept }
+  passes = c .lower-pages .ensures .passes;
+  restricted = restricts (g .P·Pmap .view (c .args .pmap .now)) (c .args .region .now) (c .args .protection) (g .P·Pmap .view (c .lower-pages .last .pmap)) (c .if-protection-ne1 .left) (c .lower-pages .ensures .lowered);
+  kept = c .lower-pages .ensures .kept;
+}

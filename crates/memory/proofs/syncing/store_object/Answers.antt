@@ -1,5 +1,4 @@
-use mathlib.Core.Path.{_≡_, refl, sym, ap, _∙_}
-use native.Mathlib.Omega.{arith}
+use mathlib.Core.Path.{refl, sym, ap, _∙_}
 use lib.ListN.{length}
 use Rattle.std.proofs.shelf.Lists.{refilled-is}
 use Rattle.std.proofs.shelf.Results.{cases-weaker}
@@ -12,10 +11,12 @@ returns g c =
     let before = c .deref-mut .ensures .value in
     record {
       stores = cases-weaker (c .store-pages .result) (c .store-pages .ensures .stores)
-        (λ n below. record {
-          pages = stores-moved _ _ _ _ _ _ _ _ _ _ _ _ _ before
-            (sym (refilled-is (t .store) (c .store-pages .last .store) (below .long ∙ ap length before ∙ sym (t .store .ok .0))))
-            (c .deref-2 .ensures .value) (c .deref .ensures .value) below;
-          rest = λ d k. refl })
-        (λ _ e. e);
-      kept = c .store-pages .ensures .kept }
+          (λ n below. record {
+            pages = stores-moved _ _ _ _ _ _ _ _ _ _ _ _ _ before
+                (sym (refilled-is (t .store) (c .store-pages .last .store) (below .long ∙ ap length before ∙ sym (t .store .ok .0))))
+                (c .deref-2 .ensures .value) (c .deref .ensures .value) below;
+            rest = λ d k. refl;
+          })
+          (λ _ e. e);
+      kept = c .store-pages .ensures .kept;
+    }

@@ -28,6 +28,7 @@ returns g c =
     let w = v (c .restrict-region .last .pmap) in
     record {
       serves = protect-served (v (m .pmap)) w (memoryState (v (m .pmap)) (m .tables) (m .counts)) (memoryState w (c .protect-region .last .self) (m .counts))
-        (c .args .space) (c .args .page) (c .in-Continue-at .at) (c .index .result .now) (c .in-Continue-at .ensures tt) (c .index .ensures) refl
-        (c .args .protection) (sym (c .fits-protect .ensures) ∙ c .if-not-fits-protect .left) (c .in-Continue-restrict-region .ensures tt .restricted) (c .protect-region .ensures (w .modified) (m .counts) (c .index .result .now));
-      kept = c .in-Continue-restrict-region .ensures tt .kept }
+          (c .args .space) (c .args .page) (c .in-Continue-at .at) (c .index .result .now) (c .in-Continue-at .ensures tt) (c .index .ensures) refl
+          (c .args .protection) (sym (c .fits-protect .ensures) ∙ c .if-not-fits-protect .left) (c .in-Continue-restrict-region .ensures tt .restricted) (c .protect-region .ensures (w .modified) (m .counts) (c .index .result .now));
+      kept = c .in-Continue-restrict-region .ensures tt .kept;
+    }

@@ -1,4 +1,4 @@
-use mathlib.Core.Path.{_≡_, sym, _∙_}
+use mathlib.Core.Path.{sym, _∙_}
 use native.Mathlib.Omega.{arith}
 use Rattle.std.specs.Of.Vec.{vec-items}
 use Rattle.rules.specs.Refusals.{begins}
@@ -20,10 +20,10 @@ pub returns-then-has-wired : need.returns-then-has-wired
 returns-then-has-wired g c =
     let m = c .args .self .now in
     region-wired (memoryState (g .P·Pmap .view (m .pmap)) (m .tables) (m .counts)) (c .args .space) (c .args .page) (c .in-Some .at) (c .index .result .now)
-      (sym (c .region-at .ensures) ∙ c .in-Some .is) (c .index .ensures) (sym (c .has-wired .ensures) ∙ c .if-has-wired .taken)
+    (sym (c .region-at .ensures) ∙ c .in-Some .is) (c .index .ensures) (sym (c .has-wired .ensures) ∙ c .if-has-wired .taken)
 
 pub returns : need.returns
 returns g c =
     let m = c .args .self .now in
     region-free (memoryState (g .P·Pmap .view (m .pmap)) (m .tables) (m .counts)) (c .args .space) (c .args .page) (c .in-Some .at) (c .index .result .now)
-      (sym (c .region-at .ensures) ∙ c .in-Some .is) (c .index .ensures) (sym (c .has-wired .ensures) ∙ c .if-has-wired .left)
+    (sym (c .region-at .ensures) ∙ c .in-Some .is) (c .index .ensures) (sym (c .has-wired .ensures) ∙ c .if-has-wired .left)

@@ -18,6 +18,7 @@ returns g c =
     let after = c .store-object .last .tables in
     record {
       serves = sync-served (v (m .pmap)) w (memoryState (v (m .pmap)) (m .tables) (m .counts)) (c .args .object) (c .in-Continue-stored .stored) (vec-items (after .store))
-        (c .pre .1 .good) refl (done .stores .pages)
-        (memoryState w after (m .counts)) (c .if-object-ge8 .left) (done .stores .rest (w .modified) (m .counts));
-      kept = done .kept }
+          (c .pre .1 .good) refl (done .stores .pages)
+          (memoryState w after (m .counts)) (c .if-object-ge8 .left) (done .stores .rest (w .modified) (m .counts));
+      kept = done .kept;
+    }

@@ -29,6 +29,7 @@ returns g c =
     let w = v (c .remove-pages .last .pmap) in
     record {
       serves = unmap-served (v (m .pmap)) w (memoryState (v (m .pmap)) (m .tables) (m .counts)) (memoryState w (c .remove-region .last .self) (m .counts))
-        (c .args .space) (c .args .page) (c .in-Continue-at .at) (c .index-region .result .now) (c .in-Continue-at .ensures tt) (c .index-region .ensures) refl
-        (sym (c .fits-place .ensures) ∙ c .if-not-fits-place .left) (c .in-Continue-remove-pages .ensures tt .removed) (c .remove-region .ensures (w .modified) (m .counts));
-      kept = c .in-Continue-remove-pages .ensures tt .kept }
+          (c .args .space) (c .args .page) (c .in-Continue-at .at) (c .index-region .result .now) (c .in-Continue-at .ensures tt) (c .index-region .ensures) refl
+          (sym (c .fits-place .ensures) ∙ c .if-not-fits-place .left) (c .in-Continue-remove-pages .ensures tt .removed) (c .remove-region .ensures (w .modified) (m .counts));
+      kept = c .in-Continue-remove-pages .ensures tt .kept;
+    }

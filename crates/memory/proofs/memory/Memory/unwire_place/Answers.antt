@@ -11,7 +11,8 @@ returns g c =
     let done = c .in-Continue-unwire .ensures tt in
     record {
       serves = unwire-served (v (m .pmap)) w (memoryState (v (m .pmap)) (m .tables) (m .counts)) (c .args .space) (c .args .page)
-        (memoryState w (c .remove-wired .last .self) (m .counts))
-        (done .meaning .0) (sym (c .is-wired .ensures) ∙ c .if-not-is-wired .left) (done .meaning .1) refl
-        (c .remove-wired .ensures (w .modified) (m .counts));
-      kept = done .kept }
+          (memoryState w (c .remove-wired .last .self) (m .counts))
+          (done .meaning .0) (sym (c .is-wired .ensures) ∙ c .if-not-is-wired .left) (done .meaning .1) refl
+          (c .remove-wired .ensures (w .modified) (m .counts));
+      kept = done .kept;
+    }
