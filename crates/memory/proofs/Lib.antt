@@ -10,3 +10,4 @@ pub mod Serving
 pub mod Syncs
 pub mod AccessRules
 pub mod ReadyKept
+pub mod AccessReady
