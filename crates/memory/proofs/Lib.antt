@@ -11,3 +11,4 @@ pub mod Syncs
 pub mod AccessRules
 pub mod ReadyKept
 pub mod AccessReady
+pub mod Counted

@@ -1,5 +1,8 @@
 // The memory: resident pages over any pmap.
 mod accesses;
+pub mod calling;
+mod counting;
+mod dispatch;
 pub mod memory;
 mod pages;
 mod paging;
