@@ -12,3 +12,4 @@ pub mod AccessRules
 pub mod ReadyKept
 pub mod AccessReady
 pub mod Counted
+pub mod New

@@ -6,3 +6,4 @@ pub mod Evicting
 pub mod Leaves
 pub mod Reaching
 pub mod Replies
+pub mod Making

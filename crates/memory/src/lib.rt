@@ -4,6 +4,7 @@ pub mod calling;
 mod counting;
 mod dispatch;
 pub mod memory;
+pub mod making;
 mod pages;
 mod paging;
 mod reaching;
