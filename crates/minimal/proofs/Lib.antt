@@ -2,3 +2,4 @@ pub mod Search
 pub mod Holding
 pub mod Calls
 pub mod Wired
+pub mod Losses
