@@ -3,3 +3,5 @@ pub mod Matching
 pub mod Ranging
 pub mod StoredPages
 pub mod Evictions
+pub mod Bringing
+pub mod Reached

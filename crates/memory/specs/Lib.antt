@@ -4,3 +4,4 @@ pub mod Storing
 pub mod Ready
 pub mod Evicting
 pub mod Leaves
+pub mod Reaching

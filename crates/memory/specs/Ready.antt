@@ -84,7 +84,8 @@ pub record Brings (v w : View) (s t : State) (x frame : ℕ) (loaded : Bool) (ev
   pub out : evicted ≡ evictedBy s (lie s x)
   pub held : (a b : ℕ) → w .held a b ≡ droppedBy (evictee s (lie s x)) (v .held a b)
 
--- nothing moved, but for what the pmap may not change
-pub record Stands (v w : View) (s t : State) : Type 0 where
+-- there is no frame to bring it into, and nothing moves
+pub record NoRoom (v w : View) (s t : State) (x : ℕ) (e : MemoryRefusal) : Type 0 where
+  pub told : wantsFrame s (lie s x) ≡ Some e
   pub state : t ≡ s
-  pub same : Same v w
+  pub held : (a b : ℕ) → w .held a b ≡ v .held a b
