@@ -3,7 +3,7 @@ ghost use mathlib.Core.Path.{_≡_};
 ghost use mathlib.Core.Bool.{true};
 ghost use Rattle.std.specs.Options.{isSome};
 ghost use Rattle.pmap.specs.Meaning.{Cleared, Enters, Removes, Lowers, Drops, Unwires, Accesses, Unmarks};
-ghost use Rattle.layers.specs.Agreement.{joint, Kept, Jointly, ToBoth, ToHolders, ByParity, ToOne};
+ghost use Rattle.layers.specs.Agreement.{agreed, joint, Kept, Jointly, ToBoth, ToHolders, ByParity, ToOne};
 use pmap::access::Access;
 use pmap::interface::Pmap;
 use pmap::range::allows;
@@ -62,6 +62,19 @@ impl<P: Pmap, Q: Pmap> Replica<P, Q> {
         } else {
             self.second.access(space, page, write)
         }
+    }
+}
+
+// The mapping that two answers of `find` agree on.
+fn agree(one: Option<(u16, u8, bool)>, two: Option<(u16, u8, bool)>) -> Option<(u16, u8, bool)>
+    ensures { λ r. ⌜ r ≡ agreed one two ⌝ }
+{
+    let Some((frame, protection, wired)) = one else {
+        return None;
+    };
+    match two {
+        Some((f, p, w)) if f == frame && p == protection && w == wired => one,
+        _ => None,
     }
 }
 
@@ -155,15 +168,9 @@ pub impl<P: Pmap, Q: Pmap> Pmap for Replica<P, Q> as ReplicaPmap {
     }
 
     fn find(&self, space: u8, page: u32) -> Result<Option<(u16, u8, bool)>, PmapRefusal> {
-        let Some((frame, protection, wired)) = self.first.find(space, page)? else {
-            return Ok(None);
-        };
-        match self.second.find(space, page)? {
-            Some((f, p, w)) if f == frame && p == protection && w == wired => {
-                Ok(Some((frame, protection, wired)))
-            }
-            _ => Ok(None),
-        }
+        let one = self.first.find(space, page)?;
+        let two = self.second.find(space, page)?;
+        Ok(agree(one, two))
     }
 
     fn modified(&self, frame: u16) -> Result<bool, PmapRefusal> {
