@@ -18,7 +18,6 @@ use Rattle.tables.proofs.Evictions.{evict-saved, evict-clean}
 use Rattle.memory.specs.Evicting.{Saves, Evicts}
 
 module _ (v x w : View) (s t : State) (at : ℕ) (stored : Bool) (here : place (free (s .wired)) (s .queue) ≡ Some at) where
-
   evicted-state : Saves x w (withDirty s (x .modified)) t (getD (s .queue) at 0) stored → x .modified ≡ s .dirty → released t at ≡ evict s (getD (s .queue) at 0)
   evicted-state saves marks =
       let f = getD (s .queue) at 0 in
@@ -26,9 +25,9 @@ module _ (v x w : View) (s t : State) (at : ℕ) (stored : Bool) (here : place (
       ap (λ z. released z at) (saves .state)
       ∙ ap (λ d. released (withDirty (cond stored (savedTo (withDirty s d) f) (withDirty s d)) (unmarked d f)) at) marks
       ∙ ⊎-elim
-        (λ (e : stored ≡ true). ap (λ z. released (withDirty (cond z (savedTo s f) s) (unmarked (s .dirty) f)) at) e ∙ evict-saved s at here (sym was ∙ e))
-        (λ (e : stored ≡ false). ap (λ z. released (withDirty (cond z (savedTo s f) s) (unmarked (s .dirty) f)) at) e ∙ evict-clean s at here (sym was ∙ e))
-        (cases-bool stored)
+      (λ (e : stored ≡ true). ap (λ z. released (withDirty (cond z (savedTo s f) s) (unmarked (s .dirty) f)) at) e ∙ evict-saved s at here (sym was ∙ e))
+      (λ (e : stored ≡ false). ap (λ z. released (withDirty (cond z (savedTo s f) s) (unmarked (s .dirty) f)) at) e ∙ evict-clean s at here (sym was ∙ e))
+      (cases-bool stored)
 
   pub evicted-by : (f page : ℕ) → f ≡ getD (s .queue) at 0 → page ≡ owner s f → ((a b : ℕ) → x .held a b ≡ withoutFrame f (v .held a b)) → Saves x w (withDirty s (x .modified)) t f stored → x .modified ≡ s .dirty → (last : State) → last ≡ released t at → Evicts v w s last (getD (s .queue) at 0) (Page (page / 256) (page % 256) stored)
   evicted-by f page e owned drops saves marks last is =
@@ -37,4 +36,5 @@ module _ (v x w : View) (s t : State) (at : ℕ) (stored : Bool) (here : place (
       record {
         state = is ∙ evicted-state saved marks;
         told = ap (λ z. Page (z / 256) (z % 256) stored) own ∙ ap (Page (owner s (getD (s .queue) at 0) / 256) (owner s (getD (s .queue) at 0) % 256)) (saved .was ∙ ap (λ z. z (getD (s .queue) at 0)) marks);
-        held = λ a b. saves .held a b ∙ drops a b ∙ ap (λ z. withoutFrame z (v .held a b)) e }
+        held = λ a b. saves .held a b ∙ drops a b ∙ ap (λ z. withoutFrame z (v .held a b)) e;
+      }

@@ -28,7 +28,8 @@ module _ (v : View) (before words : List ℕ) (o x : ℕ) where
     told = sym (and-from _ _ (eq-eqb _ _ at) (ap (dirtyIn (v .modified)) is ∙ on));
     store = ap (λ z. set before x (wordOf words z)) (sym is);
     held = un .held;
-    marks = un .marks ∙ ap (unmarkedIn (v .modified)) (sym is) }
+    marks = un .marks ∙ ap (unmarkedIn (v .modified)) (sym is);
+  }
 
 -- a frame that holds none of the pages below n
 pub held-below-none : (records : List (Option ℕ)) (o f n : ℕ) → ((k : ℕ) → k < n → getD records k None ≡ Some f → ⊥) → heldBelow records o f n ≡ false
@@ -56,6 +57,7 @@ marks-stored a h g f = ⊎-elim
     both-off true true = refl
     both-off true false = refl
     both-off false h = refl
+
     both-on : (a h : Bool) → ((a && not h) && true) ≡ (a && not h)
     both-on true true = refl
     both-on true false = refl
@@ -65,16 +67,16 @@ marks-stored a h g f = ⊎-elim
 marks-kept : (dirty : ℕ → Bool) (o n g : ℕ) (page : Option ℕ) (h : Bool) → due dirty o n page ≡ false → (dirty g && not h) ≡ (dirty g && not ((eqb (n / 256) o && isFrame g page) || h))
 marks-kept dirty o n g page h e = ⊎-elim
     (λ (at : eqb (n / 256) o ≡ true).
-      of-object page (sym (ap (λ z. z && dirtyIn dirty page) at) ∙ e) ∙ ap (λ z. dirty g && not ((z && isFrame g page) || h)) (sym at))
+    of-object page (sym (ap (λ z. z && dirtyIn dirty page) at) ∙ e) ∙ ap (λ z. dirty g && not ((z && isFrame g page) || h)) (sym at))
     (λ (at : eqb (n / 256) o ≡ false). ap (λ z. dirty g && not ((z && isFrame g page) || h)) (sym at))
     (cases-bool (eqb (n / 256) o))
   where
     of-object : (page : Option ℕ) → dirtyIn dirty page ≡ false → (dirty g && not h) ≡ (dirty g && not ((true && isFrame g page) || h))
     of-object None d = refl
     of-object (Some f) d = ⊎-elim
-      (λ (q : f ≡ g). let off : dirty g ≡ false = ap dirty (sym q) ∙ d in ap (λ z. z && not h) off ∙ sym (ap (λ z. z && not ((true && eqb f g) || h)) off))
-      (λ (q : f ≡ g → ⊥). ap (λ z. dirty g && not (z || h)) (sym (ne-eqb f g q)))
-      (cases-eq f g)
+        (λ (q : f ≡ g). let off : dirty g ≡ false = ap dirty (sym q) ∙ d in ap (λ z. z && not h) off ∙ sym (ap (λ z. z && not ((true && eqb f g) || h)) off))
+        (λ (q : f ≡ g → ⊥). ap (λ z. dirty g && not (z || h)) (sym (ne-eqb f g q)))
+        (cases-eq f g)
 
 module _ (v : View) (before words : List ℕ) (records : List (Option ℕ)) (o : ℕ) where
   pub stores-none : StoresBelow v v before before words records o 0 0
@@ -85,7 +87,8 @@ module _ (v : View) (before words : List ℕ) (records : List (Option ℕ)) (o :
     done = λ k h. absurd (omega arith);
     rest = λ k h. refl;
     held = λ a b. refl;
-    marks = λ g. same (v .modified g) }
+    marks = λ g. same (v .modified g);
+  }
     where
       same : (b : Bool) → b ≡ (b && true)
       same true = refl
@@ -111,27 +114,27 @@ module _ (v : View) (before words : List ℕ) (records : List (Option ℕ)) (o :
       -- the word at n, and all others
       word-at : n < length before → getD after n 0 ≡ cond (due (v .modified) o n (getD records n None)) (wordOf words (getD records n None)) (getD before n 0)
       word-at fits = ap (λ z. getD z n 0) (step .store) ∙ ⊎-elim
-        (λ (e : b ≡ true). ap (λ z. getD (cond z (set mid n (wordOf words (getD records n None))) mid) n 0) e
+          (λ (e : b ≡ true). ap (λ z. getD (cond z (set mid n (wordOf words (getD records n None))) mid) n 0) e
           ∙ getD-set-same mid n (wordOf words (getD records n None)) 0 (omega (arith, below .long))
           ∙ sym (cond-true _ _ _ (sym is-due ∙ e)))
-        (λ (e : b ≡ false). ap (λ z. getD (cond z (set mid n (wordOf words (getD records n None))) mid) n 0) e
+          (λ (e : b ≡ false). ap (λ z. getD (cond z (set mid n (wordOf words (getD records n None))) mid) n 0) e
           ∙ below .rest n (omega arith)
           ∙ sym (cond-false _ _ _ (sym is-due ∙ e)))
-        (cases-bool b)
+          (cases-bool b)
 
       word-far : (k : ℕ) → (k ≡ n → ⊥) → getD after k 0 ≡ getD mid k 0
       word-far k far = ap (λ z. getD z k 0) (step .store) ∙ ⊎-elim
-        (λ (e : b ≡ true). ap (λ z. getD (cond z (set mid n (wordOf words (getD records n None))) mid) k 0) e ∙ getD-set-other mid n k _ 0 far)
-        (λ (e : b ≡ false). ap (λ z. getD (cond z (set mid n (wordOf words (getD records n None))) mid) k 0) e)
-        (cases-bool b)
+          (λ (e : b ≡ true). ap (λ z. getD (cond z (set mid n (wordOf words (getD records n None))) mid) k 0) e ∙ getD-set-other mid n k _ 0 far)
+          (λ (e : b ≡ false). ap (λ z. getD (cond z (set mid n (wordOf words (getD records n None))) mid) k 0) e)
+          (cases-bool b)
 
       marks-after : (g : ℕ) → x .modified g ≡ (v .modified g && not (heldBelow records o g (n + 1)))
       marks-after g = ap (λ z. z g) (step .marks) ∙ ⊎-elim
-        (λ (e : b ≡ true). ap (λ z. cond z (unmarkedIn (w .modified) (getD records n None)) (w .modified) g) e ∙ on (getD records n None) refl (sym is-due ∙ e))
-        (λ (e : b ≡ false). ap (λ z. cond z (unmarkedIn (w .modified) (getD records n None)) (w .modified) g) e ∙ below .marks g
+          (λ (e : b ≡ true). ap (λ z. cond z (unmarkedIn (w .modified) (getD records n None)) (w .modified) g) e ∙ on (getD records n None) refl (sym is-due ∙ e))
+          (λ (e : b ≡ false). ap (λ z. cond z (unmarkedIn (w .modified) (getD records n None)) (w .modified) g) e ∙ below .marks g
           ∙ marks-kept (v .modified) o n g (getD records n None) (heldBelow records o g n) (sym is-due ∙ e))
-        (cases-bool b)
-        ∙ ap (λ z. v .modified g && not z) (sym (held-below-more records o g n))
+          (cases-bool b)
+          ∙ ap (λ z. v .modified g && not z) (sym (held-below-more records o g n))
         where
           on : (page : Option ℕ) → getD records n None ≡ page → due (v .modified) o n page ≡ true → unmarkedIn (w .modified) page g ≡ (v .modified g && not ((eqb (n / 256) o && isFrame g page) || heldBelow records o g n))
           on None e d = absurd (both-ways false refl (and-parts (eqb (n / 256) o) false d .1))
@@ -142,20 +145,21 @@ module _ (v : View) (before words : List ℕ) (records : List (Option ℕ)) (o :
       pub stores-more : n < length before → StoresBelow v x before after words records o (n + 1) (count + cond b 1 0)
       stores-more fits = record {
         told = ⊎-elim
-          (λ (e : b ≡ true). ap (λ z. count + cond z 1 0) e ∙ ap (λ z. z + 1) (below .told) ∙ sym (tally-hit test n (sym is-due ∙ e)))
-          (λ (e : b ≡ false). ap (λ z. count + cond z 1 0) e ∙ add-zero count ∙ below .told ∙ sym (tally-miss test n (sym is-due ∙ e)))
-          (cases-bool b);
+            (λ (e : b ≡ true). ap (λ z. count + cond z 1 0) e ∙ ap (λ z. z + 1) (below .told) ∙ sym (tally-hit test n (sym is-due ∙ e)))
+            (λ (e : b ≡ false). ap (λ z. count + cond z 1 0) e ∙ add-zero count ∙ below .told ∙ sym (tally-miss test n (sym is-due ∙ e)))
+            (cases-bool b);
         long = ap length (step .store) ∙ ⊎-elim
-          (λ (e : b ≡ true). ap (λ z. length (cond z (set mid n (wordOf words (getD records n None))) mid)) e ∙ length-set mid n _ ∙ below .long)
-          (λ (e : b ≡ false). ap (λ z. length (cond z (set mid n (wordOf words (getD records n None))) mid)) e ∙ below .long)
-          (cases-bool b);
+            (λ (e : b ≡ true). ap (λ z. length (cond z (set mid n (wordOf words (getD records n None))) mid)) e ∙ length-set mid n _ ∙ below .long)
+            (λ (e : b ≡ false). ap (λ z. length (cond z (set mid n (wordOf words (getD records n None))) mid)) e ∙ below .long)
+            (cases-bool b);
         done = λ k h. ⊎-elim
-          (λ (e : k ≡ n). rw e (word-at fits))
-          (λ (e : k ≡ n → ⊥). word-far k e ∙ below .done k (omega arith))
-          (cases-eq k n);
+            (λ (e : k ≡ n). rw e (word-at fits))
+            (λ (e : k ≡ n → ⊥). word-far k e ∙ below .done k (omega arith))
+            (cases-eq k n);
         rest = λ k h. word-far k (omega arith) ∙ below .rest k (omega arith);
         held = λ c d. step .held c d ∙ below .held c d;
-        marks = marks-after }
+        marks = marks-after;
+      }
         where
           test : ℕ → Bool
           test y = due (v .modified) o y (getD records y None)

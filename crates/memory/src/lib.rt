@@ -1,4 +1,4 @@
 // The memory: resident pages over any pmap.
-mod pages;
 pub mod memory;
+mod pages;
 mod paging;

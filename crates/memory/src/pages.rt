@@ -12,7 +12,12 @@ use pmap::interface::Pmap;
 use refusal::pmap::PmapRefusal;
 
 // Removes the mappings of `count` pages from the first on.
-pub fn remove_pages<P: Pmap>(pmap: &mut P, space: u8, first: u32, count: u16) -> Result<(), PmapRefusal>
+pub fn remove_pages<P: Pmap>(
+    pmap: &mut P,
+    space: u8,
+    first: u32,
+    count: u16,
+) -> Result<(), PmapRefusal>
     requires { ⌜ kept (now pmap) ⌝ ∗ ⌜ space < 4 ⌝ ∗ ⌜ first + count ≤ 262144 ⌝ }
     ensures passes { λ r. ⌜ isOk r ≡ true ⌝ }
     ensures removed { λ _. ⌜ Over nothing (view (now (pmap .entry))) (view (now (pmap .exit))) space first count ⌝ }
@@ -25,7 +30,12 @@ pub fn remove_pages<P: Pmap>(pmap: &mut P, space: u8, first: u32, count: u16) ->
 }
 
 // Lowers the mappings of `count` pages from the first on.
-pub fn lower_pages<P: Pmap>(pmap: &mut P, space: u8, first: u32, count: u16) -> Result<(), PmapRefusal>
+pub fn lower_pages<P: Pmap>(
+    pmap: &mut P,
+    space: u8,
+    first: u32,
+    count: u16,
+) -> Result<(), PmapRefusal>
     requires { ⌜ kept (now pmap) ⌝ ∗ ⌜ space < 4 ⌝ ∗ ⌜ first + count ≤ 262144 ⌝ }
     ensures passes { λ r. ⌜ isOk r ≡ true ⌝ }
     ensures lowered { λ _. ⌜ Over lowered (view (now (pmap .entry))) (view (now (pmap .exit))) space first count ⌝ }
@@ -38,7 +48,14 @@ pub fn lower_pages<P: Pmap>(pmap: &mut P, space: u8, first: u32, count: u16) -> 
 }
 
 // Stores the word of object page `x` if it is a modified page of the object, and says whether it was.
-pub fn store_page<P: Pmap>(x: usize, page: Option<u16>, object: u8, pmap: &mut P, words: &[u32], store: &mut [u32]) -> Result<bool, PmapRefusal>
+pub fn store_page<P: Pmap>(
+    x: usize,
+    page: Option<u16>,
+    object: u8,
+    pmap: &mut P,
+    words: &[u32],
+    store: &mut [u32],
+) -> Result<bool, PmapRefusal>
     requires { ⌜ kept (now pmap) ⌝ ∗ ⌜ x < length (now store) ⌝ ∗ ⌜ length (now words) ≡ 256 ⌝ ∗ ⌜ ((f : ℕ) → page ≡ Some f → f < 256) ⌝ }
     ensures stores { λ r. ⌜ Cases r (λ b. StoresOne (view (now (pmap .entry))) (view (now (pmap .exit))) (now (store .entry)) (now (store .exit)) (now (words .entry)) object x page b) (λ _. ⊥) ⌝ }
     ensures kept { λ _. ⌜ kept (now (pmap .exit)) ⌝ }
@@ -58,7 +75,13 @@ pub fn store_page<P: Pmap>(x: usize, page: Option<u16>, object: u8, pmap: &mut P
 }
 
 // Stores the modified pages of an object by rising index, clears their frames' modified state, and says how many there were.
-pub fn store_pages<P: Pmap>(records: &[Option<u16>], object: u8, pmap: &mut P, words: &[u32], store: &mut [u32]) -> Result<u32, PmapRefusal>
+pub fn store_pages<P: Pmap>(
+    records: &[Option<u16>],
+    object: u8,
+    pmap: &mut P,
+    words: &[u32],
+    store: &mut [u32],
+) -> Result<u32, PmapRefusal>
     requires { ⌜ kept (now pmap) ⌝ ∗ ⌜ length (now records) ≡ 2048 ⌝ ∗ ⌜ length (now store) ≡ 2048 ⌝ ∗ ⌜ length (now words) ≡ 256 ⌝ ∗ ⌜ OnePageEach (now records) ⌝ }
     ensures stores { λ r. ⌜ Cases r (λ n. StoresBelow (view (now (pmap .entry))) (view (now (pmap .exit))) (now (store .entry)) (now (store .exit)) (now (words .entry)) (now (records .entry)) object 2048 n) (λ _. ⊥) ⌝ }
     ensures kept { λ _. ⌜ kept (now (pmap .exit)) ⌝ }

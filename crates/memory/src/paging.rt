@@ -50,7 +50,11 @@ impl<P: Pmap> Memory<P> {
         self.pmap.drop_frame(frame)?;
         let stored = self.save_modified(frame)?;
         self.tables.release(at);
-        Ok(Evicted::Page { object: (page / 256) as u8, index: (page % 256) as u8, stored })
+        Ok(Evicted::Page {
+            object: (page / 256) as u8,
+            index: (page % 256) as u8,
+            stored,
+        })
     }
 
     // Has object page x resident: where it is not, it is loaded into an unused frame, the lowest first, else into that of the

@@ -53,7 +53,10 @@ pub impl Refusal for MemoryRefusal as MemoryRefusalCode {
             MemoryRefusal::NoFrame => 14,
             MemoryRefusal::Pmap(inner) => return inner.code(),
         };
-        Code { number, layer: Layer::Memory }
+        Code {
+            number,
+            layer: Layer::Memory,
+        }
     }
 }
 

@@ -34,7 +34,8 @@ evict s f = record {
   store = cond (s .dirty f) (set (s .store) (owner s f) (getD (s .words) f 0)) (s .store);
   wired = s .wired;
   dirty = unmarked (s .dirty) f;
-  counts = s .counts }
+  counts = s .counts;
+}
 
 abbrev pub evictedPage : State → ℕ → Evicted
 evictedPage s f = Page (owner s f / 256) (owner s f % 256) (s .dirty f)
@@ -51,7 +52,8 @@ load s x f = record {
   store = s .store;
   wired = s .wired;
   dirty = s .dirty;
-  counts = s .counts }
+  counts = s .counts;
+}
 
 -- object page x is brought in: into an unused frame, the lowest first, else into that of the victim
 abbrev pub replaced : State → ℕ → Option ℕ → State
@@ -96,7 +98,8 @@ writtenTo s w (Some f) = record {
   store = s .store;
   wired = s .wired;
   dirty = marked (s .dirty) true f;
-  counts = s .counts }
+  counts = s .counts;
+}
 
 abbrev pub wordIn : State → Option ℕ → ℕ
 wordIn s None = 0
@@ -120,7 +123,8 @@ synced s o = record {
   store = storedWords s o;
   wired = s .wired;
   dirty = λ f. s .dirty f && not (eqb (owner s f / 256) o);
-  counts = s .counts }
+  counts = s .counts;
+}
 
 abbrev pub syncedCount : State → ℕ → ℕ
 syncedCount s o = tally (λ x. eqb (x / 256) o && isModified s x) 2048

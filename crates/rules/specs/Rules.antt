@@ -201,7 +201,8 @@ added n r = record {
   hard = n .hard + ofKind Hard r;
   loads = n .loads + loadsIn r;
   evicted = n .evicted + evictions (evictedIn r);
-  stored = n .stored + storedIn r }
+  stored = n .stored + storedIn r;
+}
 
 abbrev pub counted : Counts → Reply → Counts
 counted n r = cond (isLimit r) n (added n r)

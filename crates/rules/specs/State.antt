@@ -72,4 +72,5 @@ fresh n = record {
   store = startingWords;
   wired = [];
   dirty = λ _. false;
-  counts = noCounts }
+  counts = noCounts;
+}

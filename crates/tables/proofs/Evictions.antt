@@ -1,7 +1,7 @@
 -- An eviction of the victim's page is a save, where its frame is modified, and a release. Assumes nothing.
 use mathlib.Core.Path.{_≡_, sym, ap, _∙_, fun-ext}
 use mathlib.Core.List.{List, [], _∷_}
-use mathlib.Core.Bool.{Bool, true, false, cond, not, _&&_}
+use mathlib.Core.Bool.{Bool, true, false}
 use mathlib.Core.Logic.{⊎-elim}
 use Prim.Native.Nat.{ℕ}
 use native.Mathlib.Omega.{arith}
@@ -55,29 +55,31 @@ module _ (s : State) (at : ℕ) (e : place (free (s .wired)) (s .queue) ≡ Some
   -- its word is stored where the frame is modified, the frame is released, and modified no more
   pub evict-saved : s .dirty (getD (s .queue) at 0) ≡ true → withDirty (released (savedTo s (getD (s .queue) at 0)) at) (unmarked (s .dirty) (getD (s .queue) at 0)) ≡ evict s (getD (s .queue) at 0)
   evict-saved d = λ i. record {
-      frames = s .frames;
-      regions = s .regions;
-      lies = set (s .lies) (owner s (getD (s .queue) at 0)) None;
-      owners = s .owners;
-      queue = queue-is i;
-      words = s .words;
-      store = sym (cond-true (s .dirty (getD (s .queue) at 0)) (set (s .store) (owner s (getD (s .queue) at 0)) (getD (s .words) (getD (s .queue) at 0) 0)) (s .store) d) i;
-      wired = s .wired;
-      dirty = unmarked (s .dirty) (getD (s .queue) at 0);
-      counts = s .counts }
+    frames = s .frames;
+    regions = s .regions;
+    lies = set (s .lies) (owner s (getD (s .queue) at 0)) None;
+    owners = s .owners;
+    queue = queue-is i;
+    words = s .words;
+    store = sym (cond-true (s .dirty (getD (s .queue) at 0)) (set (s .store) (owner s (getD (s .queue) at 0)) (getD (s .words) (getD (s .queue) at 0) 0)) (s .store) d) i;
+    wired = s .wired;
+    dirty = unmarked (s .dirty) (getD (s .queue) at 0);
+    counts = s .counts;
+  }
 
   pub evict-clean : s .dirty (getD (s .queue) at 0) ≡ false → withDirty (released s at) (unmarked (s .dirty) (getD (s .queue) at 0)) ≡ evict s (getD (s .queue) at 0)
   evict-clean d = λ i. record {
-      frames = s .frames;
-      regions = s .regions;
-      lies = set (s .lies) (owner s (getD (s .queue) at 0)) None;
-      owners = s .owners;
-      queue = queue-is i;
-      words = s .words;
-      store = sym (cond-false (s .dirty (getD (s .queue) at 0)) (set (s .store) (owner s (getD (s .queue) at 0)) (getD (s .words) (getD (s .queue) at 0) 0)) (s .store) d) i;
-      wired = s .wired;
-      dirty = unmarked (s .dirty) (getD (s .queue) at 0);
-      counts = s .counts }
+    frames = s .frames;
+    regions = s .regions;
+    lies = set (s .lies) (owner s (getD (s .queue) at 0)) None;
+    owners = s .owners;
+    queue = queue-is i;
+    words = s .words;
+    store = sym (cond-false (s .dirty (getD (s .queue) at 0)) (set (s .store) (owner s (getD (s .queue) at 0)) (getD (s .words) (getD (s .queue) at 0) 0)) (s .store) d) i;
+    wired = s .wired;
+    dirty = unmarked (s .dirty) (getD (s .queue) at 0);
+    counts = s .counts;
+  }
 
 -- where there is no free frame there is no victim
 pub victim-none : (s : State) → place (free (s .wired)) (s .queue) ≡ None → victim s ≡ None

@@ -1,7 +1,6 @@
 -- The state that tables hold, and the parts of the rules' changes that tables make. Assumes nothing.
 --
 -- The modified frames and the counts are kept elsewhere: they are given.
-use mathlib.Core.List.{List, [], _∷_, _++_}
 use mathlib.Core.Bool.{Bool}
 use Prim.Native.Nat.{ℕ}
 use lib.ListN.{getD, set}
@@ -9,8 +8,6 @@ use Rattle.std.specs.Of.Vec.{vec-items}
 use Rattle.std.specs.Holes.{removed}
 use Rattle.std.specs.declared.option.Option.the-variants.{None}
 use Rattle.rules.specs.declared.counts.Counts.{Counts}
-use Rattle.rules.specs.declared.region.Region.{Region}
-use Rattle.rules.specs.declared.region.WiredPlace.{WiredPlace}
 use Rattle.rules.specs.State.{State}
 use Rattle.rules.specs.Paging.{owner}
 use Rattle.tables.specs.declared.table.Tables.{Tables}

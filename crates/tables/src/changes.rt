@@ -30,7 +30,7 @@ impl Tables {
         requires { ⌜ at < vec-len (now self .regions) ⌝ }
         ensures { λ _. ⌜ ((d : ℕ → Bool) (n : Counts) → stateOf (now (self .exit)) d n ≡ withRegions (stateOf (now (self .entry)) d n) (removed (vec-items (now (self .entry) .regions)) at)) ⌝ }
     {
-        let _ = self.regions.remove(at);
+        self.regions.remove(at);
     }
 
     pub fn protect_region(&mut self, at: usize, protection: u8)
@@ -93,7 +93,7 @@ impl Tables {
         ensures { λ _. ⌜ ((d : ℕ → Bool) (n : Counts) → stateOf (now (self .exit)) d n ≡ withWired (stateOf (now (self .entry)) d n) (without (isPlace space page) (vec-items (now (self .entry) .wired)))) ⌝ }
     {
         if let Some(at) = find_wired(&self.wired, space, page) {
-            let _ = self.wired.remove(at);
+            self.wired.remove(at);
         }
     }
 }

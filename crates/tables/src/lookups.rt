@@ -2,7 +2,7 @@
 ghost use mathlib.Core.Path.{_≡_};
 ghost use Prim.Native.Nat.{_<_};
 ghost use lib.ListN.{getD};
-ghost use Rattle.std.specs.Of.Vec.{vec-items};
+ghost use Rattle.std.specs.Of.Vec.{vec-len, vec-items};
 ghost use Rattle.std.specs.declared.option.Option.the-variants.{None};
 ghost use Rattle.rules.specs.Lists.{place, any};
 ghost use Rattle.rules.specs.State.{pageIn};
@@ -81,6 +81,22 @@ impl Tables {
         ensures { λ r. ⌜ r ≡ getD (vec-items (now (self .entry) .lies)) x None ⌝ }
     {
         self.lies[x]
+    }
+
+    // The object page that was loaded into a frame last.
+    pub fn owner(&self, frame: u16) -> u16
+        requires { ⌜ frame < 256 ⌝ }
+        ensures { λ r. ⌜ r ≡ getD (vec-items (now (self .entry) .owners)) frame 0 ⌝ }
+    {
+        self.owners[frame as usize]
+    }
+
+    // The frame at a position of the queue.
+    pub fn queued(&self, at: usize) -> u16
+        requires { ⌜ at < vec-len (now self .queue) ⌝ }
+        ensures { λ r. ⌜ r ≡ getD (vec-items (now (self .entry) .queue)) at 0 ⌝ }
+    {
+        self.queue[at]
     }
 
     pub fn word(&self, frame: u16) -> u32

@@ -17,7 +17,8 @@ loop-page-again g c =
     let v = g .P·Pmap .view in
     let p = c .loop-page .page in
     let f = c .args .first in
-    let step : p + 1 - f ≡ p - f + 1 = omega arith in
-    ( c .in-Continue-lower .ensures tt .kept
-    , rw step (over-more lowered (v (c .args .pmap .now)) (c .args .space) f (v (c .loop-page .pmap)) (v (c .lower .last .self)) (p - f) p
-        (c .loop-page .inv .1) (omega arith) (c .in-Continue-lower .ensures tt .meaning .1)) )
+    let step : p + 1 - f ≡ p - f + 1 = omega arith in (
+      c .in-Continue-lower .ensures tt .kept,
+      rw step (over-more lowered (v (c .args .pmap .now)) (c .args .space) f (v (c .loop-page .pmap)) (v (c .lower .last .self)) (p - f) p
+          (c .loop-page .inv .1) (omega arith) (c .in-Continue-lower .ensures tt .meaning .1)),
+    )

@@ -27,15 +27,17 @@ pub loop-x-again : need.loop-x-again
 loop-x-again g c =
     let v = g .P·Pmap .view in
     let step = stores-more (v (c .args .pmap .now)) (c .args .store .now) (c .args .words .now) (c .args .records .now) (c .args .object) (c .pre .1 .1 .1 .1)
-          (v (c .loop-x .pmap)) (v (c .store-page .last .pmap)) (c .loop-x .store) (c .store-page .last .store) (c .loop-x .x) (c .loop-x .stored) (c .loop-x .inv .1)
-          (c .in-Continue-store-page .field-0) (c .in-Continue-store-page .ensures tt .stores) (omega arith) in
+    (v (c .loop-x .pmap)) (v (c .store-page .last .pmap)) (c .loop-x .store) (c .store-page .last .store) (c .loop-x .x) (c .loop-x .stored) (c .loop-x .inv .1)
+    (c .in-Continue-store-page .field-0) (c .in-Continue-store-page .ensures tt .stores) (omega arith) in
     let same : c .if-branch .stored ≡ c .loop-x .stored + cond (c .in-Continue-store-page .field-0) 1 0 =
-          elim (c .if-branch .came) [
-            then-branch w ↦ w .stored-is ∙ ap (λ z. c .loop-x .stored + cond z 1 0) (sym (w .if-branch .taken))
-          | else-branch w ↦ w .stored-is ∙ sym (add-zero (c .loop-x .stored)) ∙ ap (λ z. c .loop-x .stored + cond z 1 0) (sym (w .if-branch .left)) ] in
-    ( c .in-Continue-store-page .ensures tt .kept
-    , rw same step
-    , rw same (at-most (c .loop-x .stored) (c .loop-x .x) (c .in-Continue-store-page .field-0) (c .loop-x .inv .2)) )
+    elim (c .if-branch .came) [
+      | then-branch w ↦ w .stored-is ∙ ap (λ z. c .loop-x .stored + cond z 1 0) (sym (w .if-branch .taken))
+      | else-branch w ↦ w .stored-is ∙ sym (add-zero (c .loop-x .stored)) ∙ ap (λ z. c .loop-x .stored + cond z 1 0) (sym (w .if-branch .left))
+    ] in (
+      c .in-Continue-store-page .ensures tt .kept,
+      rw same step,
+      rw same (at-most (c .loop-x .stored) (c .loop-x .x) (c .in-Continue-store-page .field-0) (c .loop-x .inv .2)),
+    )
 
 pub returns : need.returns
 returns g c =

@@ -1,4 +1,4 @@
-use mathlib.Core.Path.{_≡_, sym, _∙_}
+use mathlib.Core.Path.{sym, _∙_}
 use Rattle.rules.specs.Refusals.{inRegion}
 use Rattle.rules.proofs.Lists.{any-here, any-more, any-all}
 use Rattle.tables.proofs.Blank.{noPlace}

@@ -1,4 +1,4 @@
-use mathlib.Core.Path.{_≡_, sym, _∙_}
+use mathlib.Core.Path.{sym, _∙_}
 use Rattle.rules.specs.Refusals.{covers}
 use Rattle.rules.proofs.Lists.{first-here, first-more, first-all}
 use Rattle.tables.proofs.Blank.{noRegion}

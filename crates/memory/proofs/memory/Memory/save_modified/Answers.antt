@@ -13,5 +13,7 @@ returns g c =
       saves = record {
         was = sym (sym (c .in-Continue-modified .ensures tt .1) ∙ c .if-not-branch .left);
         state = c .save .ensures (w .modified) (m .counts) ∙ ap (withDirty (savedTo (memoryState (v (m .pmap)) (m .tables) (m .counts)) (c .args .frame))) (un .marks);
-        held = un .held };
-      kept = c .in-Continue-clear-modified .ensures tt .kept }
+        held = un .held;
+      };
+      kept = c .in-Continue-clear-modified .ensures tt .kept;
+    }

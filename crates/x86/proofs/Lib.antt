@@ -1,0 +1,5 @@
+pub mod Bits
+pub mod Steps
+pub mod Sweeps
+pub mod Sets
+pub mod Worked

@@ -1,0 +1,14 @@
+pub mod Fields
+pub mod Tables
+pub mod Counts
+pub mod Keeps
+pub mod Follows
+pub mod Single
+pub mod Touches
+pub mod Places
+pub mod Rewrites
+pub mod Frames
+pub mod Starts
+pub mod Wirings
+pub mod Choices
+pub mod Takes
