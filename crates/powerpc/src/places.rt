@@ -1,5 +1,6 @@
 // Where the entry of a place may stand, for programs that show the table.
 ghost use mathlib.Core.Path.{_≡_};
+ghost use mathlib.Core.Bool.{true};
 ghost use Rattle.pmap.specs.Ranges.{fitsPlace};
 ghost use Rattle.powerpc.specs.Answers.{orRange};
 ghost use Rattle.powerpc.specs.Cases.{Cases};
@@ -37,7 +38,8 @@ pub fn indices_of(space: u8, page: u32) -> Result<Indices, PmapRefusal>
 
 // The worked cases hold.
 pub fn cases_hold() -> bool
-    ensures { λ _. ⌜ Cases ⌝ }
+    ensures answer { λ r. ⌜ r ≡ true ⌝ }
+    ensures cases { λ _. ⌜ Cases ⌝ }
 {
     true
 }

@@ -7,6 +7,7 @@ use native.Mathlib.Omega.{arith}
 use lib.Dec.{eqb, lit<}
 use Rattle.std.proofs.shelf.Bits.{shr-shr}
 use Rattle.std.proofs.shelf.Tests.{cases-eq, eq-eqb, ne-eqb, cond-true, cond-false, cond-both}
+use Rattle.powerpc_pmap.specs.Kept.{Shaped}
 use Rattle.powerpc.specs.Fields.{withBit, frameOf, changed, protectionOf, secondWord, ppOf, touched, lowered, cleaned}
 
 pub changed-zero : changed 0 ≡ false
@@ -106,3 +107,96 @@ new-protection f q (inr e) =
     let pp : ppOf q ≡ 2 = cond-true (eqb q 3) 2 3 (eq-eqb q 3 e) in
     let low : (f * 4096 + ppOf q) % 4 ≡ 2 = omega (arith, pp) in
     cond-true _ _ _ (eq-eqb _ _ low) ∙ sym e
+
+-- ---- the shape of a second word
+pp-small : (n : ℕ) → (n ≡ 2) ⊎ (n ≡ 3) → n < 4
+pp-small n (inl e) = omega arith
+pp-small n (inr e) = omega arith
+
+module _ (w : ℕ) (x : Shaped w) where
+  pp-fits : x .pp < 4
+  pp-fits = pp-small (x .pp) (x .pp-is)
+
+  pub shaped-frame : frameOf w < 256
+  shaped-frame = omega (arith, x .word, x .frame-below, x .r-below, x .c-below, pp-fits)
+
+  r-bit : w / 256 % 2 ≡ x .r
+  r-bit = omega (arith, x .word, x .r-below, x .c-below, pp-fits)
+
+  c-bit : w / 128 % 2 ≡ x .c
+  c-bit = omega (arith, x .word, x .r-below, x .c-below, pp-fits)
+
+  low-two : w % 4 ≡ x .pp
+  low-two = omega (arith, x .word, x .r-below, x .c-below, pp-fits)
+
+  r-shaped : Shaped (withBit w 8)
+  r-shaped = record {
+    frame = x .frame;
+    r = 1;
+    c = x .c;
+    pp = x .pp;
+    frame-below = x .frame-below;
+    r-below = lit< tt;
+    c-below = x .c-below;
+    pp-is = x .pp-is;
+    word = omega (arith, x .word, r-bit, x .r-below);
+  }
+
+  c-shaped : Shaped (withBit w 7)
+  c-shaped = record {
+    frame = x .frame;
+    r = x .r;
+    c = 1;
+    pp = x .pp;
+    frame-below = x .frame-below;
+    r-below = x .r-below;
+    c-below = lit< tt;
+    pp-is = x .pp-is;
+    word = omega (arith, x .word, c-bit, x .c-below);
+  }
+
+  pub cleaned-shaped : Shaped (cleaned w)
+  unfolding cleaned
+  cleaned-shaped = record {
+    frame = x .frame;
+    r = x .r;
+    c = 0;
+    pp = x .pp;
+    frame-below = x .frame-below;
+    r-below = x .r-below;
+    c-below = lit< tt;
+    pp-is = x .pp-is;
+    word = omega (arith, x .word, c-bit);
+  }
+
+  pub lowered-shaped : Shaped (lowered w)
+  unfolding lowered
+  lowered-shaped = record {
+    frame = x .frame;
+    r = x .r;
+    c = x .c;
+    pp = 3;
+    frame-below = x .frame-below;
+    r-below = x .r-below;
+    c-below = x .c-below;
+    pp-is = inr refl;
+    word = omega (arith, x .word, low-two);
+  }
+
+pub touched-shaped : (write : Bool) (w : ℕ) → Shaped w → Shaped (touched write w)
+unfolding touched
+touched-shaped true w x = c-shaped (withBit w 8) (r-shaped w x)
+touched-shaped false w x = r-shaped w x
+
+pub new-shaped : (f q : ℕ) → f < 256 → Shaped (secondWord f q)
+new-shaped f q h = record {
+  frame = f;
+  r = 0;
+  c = 0;
+  pp = ppOf q;
+  frame-below = h;
+  r-below = lit< tt;
+  c-below = lit< tt;
+  pp-is = cond-both (eqb q 3) 2 3 (λ n. (n ≡ 2) ⊎ (n ≡ 3)) (λ _. inl refl) (λ _. inr refl);
+  word = omega arith;
+}

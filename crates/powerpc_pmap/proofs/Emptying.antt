@@ -16,7 +16,7 @@ use Rattle.powerpc.specs.Changes.{emptied, forgotten}
 use Rattle.powerpc_pmap.specs.Kept.{Unused, Used, Kept}
 use Rattle.powerpc_pmap.proofs.Decoded.{entryAt, table, slot-unused, slot-some, slot-same, at-used}
 use Rattle.powerpc_pmap.proofs.Keeping.{Tame, same, gone, kept-tame}
-use Rattle.powerpc_pmap.proofs.Colors.{changed-zero}
+use Rattle.powerpc_pmap.proofs.Colors.{changed-zero, shaped-frame}
 
 -- both words of a slot written
 module _ (ws : List ℕ) (j a b : ℕ) where
@@ -109,7 +109,7 @@ module _ (st : State) (kept : Kept st) (j : ℕ) (b : j < 8192) (sv : State) (c 
   mark-new : changed (second st j) ≡ true → (f : ℕ) → f ≡ frameOf (second st j) → getD (sv .marks) f false ≡ true
   mark-new t f q =
       ap (λ l. getD l f false) (marks-on t) ∙ ap (λ x. getD (set (st .marks) (frameOf (second st j)) true) x false) q
-      ∙ getD-set-same (st .marks) (frameOf (second st j)) true false (omega (arith, in-use t .frame, kept .marks))
+      ∙ getD-set-same (st .marks) (frameOf (second st j)) true false (omega (arith, shaped-frame (second st j) (in-use t .shape), kept .marks))
 
   mark-old : changed (second st j) ≡ true → (f : ℕ) → (f ≡ frameOf (second st j) → ⊥) → getD (sv .marks) f false ≡ getD (st .marks) f false
   mark-old t f q = ap (λ l. getD l f false) (marks-on t) ∙ getD-set-other (st .marks) (frameOf (second st j)) f true false q

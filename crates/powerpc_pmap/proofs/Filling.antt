@@ -17,11 +17,11 @@ use Rattle.powerpc.specs.Hashing.{group, entryWord}
 use Rattle.powerpc.specs.State.{State, first, second, wiredAt}
 use Rattle.powerpc.specs.Changes.{isSecondary, filled}
 use Rattle.powerpc.proofs.HashLaws.{spaceIn, pageIn, entry-above, entry-space, entry-page, groups-apart}
-use Rattle.powerpc_pmap.specs.Kept.{At, Unused, Used, Kept}
+use Rattle.powerpc_pmap.specs.Kept.{At, Shaped, Unused, Used, Kept}
 use Rattle.powerpc_pmap.proofs.Finds.{InGroup, in-group-below}
 use Rattle.powerpc_pmap.proofs.Decoded.{entryAt, slotAt, table, slot-used, slot-unused, slot-same}
 use Rattle.powerpc_pmap.proofs.Keeping.{tally-mono, tally-one}
-use Rattle.powerpc_pmap.proofs.Colors.{new-frame, new-protection, new-changed}
+use Rattle.powerpc_pmap.proofs.Colors.{new-shaped, new-frame, new-protection, new-changed}
 use Rattle.powerpc_pmap.proofs.Emptying.{pair-first, pair-second, pair-first-other, pair-second-other, pair-length}
 
 -- H by the slot's group
@@ -69,7 +69,7 @@ module _ (st : State) (kept : Kept st) (s p : ℕ) (s-fits : s < 4) (p-fits : p 
   new-at = record { below = below; space = s-fits; page = p-fits; group = place .group; word = first-here }
 
   new-used : Used (filled st k s p f q w) k
-  new-used = record { space = s; page = p; side = place .side; at = new-at; frame = subst (λ x. x < 256) (sym (ap frameOf second-here ∙ new-frame f q)) f-fits }
+  new-used = record { space = s; page = p; side = place .side; at = new-at; shape = subst Shaped (sym second-here) (new-shaped f q f-fits) }
 
   old-slot : (j : ℕ) → (j ≡ k → ⊥) → Unused st j ⊎ Used st j → Unused (filled st k s p f q w) j ⊎ Used (filled st k s p f q w) j
   old-slot j far (inl u) = inl (record { first = first-there j far ∙ u .first; second = second-there j far ∙ u .second; wired = wired-there j far ∙ u .wired })
@@ -78,7 +78,7 @@ module _ (st : State) (kept : Kept st) (s p : ℕ) (s-fits : s < 4) (p-fits : p 
     page = u .page;
     side = u .side;
     at = record { below = u .at .below; space = u .at .space; page = u .at .page; group = u .at .group; word = first-there j far ∙ u .at .word };
-    frame = subst (λ x. x < 256) (sym (ap frameOf (second-there j far))) (u .frame);
+    shape = subst Shaped (sym (second-there j far)) (u .shape);
   })
 
   -- a place in the new slot is the place entered

@@ -9,10 +9,9 @@ use lib.ListN.{length}
 use Rattle.std.proofs.shelf.Tests.{cases-bool, cases-eq, both-ways}
 use Rattle.pmap.specs.Tally.{tally}
 use Rattle.pmap.proofs.Crowds.{tally-none, tally-hit, tally-miss}
-use Rattle.powerpc.specs.Fields.{frameOf}
 use Rattle.powerpc.specs.State.{State, first, second, wiredAt}
 use Rattle.powerpc.proofs.HashLaws.{entry-above}
-use Rattle.powerpc_pmap.specs.Kept.{At, Unused, Used, Kept}
+use Rattle.powerpc_pmap.specs.Kept.{At, Shaped, Unused, Used, Kept}
 
 -- the count at one more, as a number
 tally-step : (f : ℕ → Bool) (n : ℕ) → ((f n ≡ true) × (tally f (suc n) ≡ tally f n + 1)) ⊎ ((f n ≡ false) × (tally f (suc n) ≡ tally f n))
@@ -60,7 +59,7 @@ tally-zero f (suc n) h = ⊎-elim
 pub data Tame (st sv : State) (k : ℕ) : Type 0 where
   same : first sv k ≡ first st k → second sv k ≡ second st k → wiredAt sv k ≡ wiredAt st k → Tame st sv k
   gone : Unused sv k → Tame st sv k
-  recolored : first sv k ≡ first st k → 0 < first st k → frameOf (second sv k) ≡ frameOf (second st k) → (wiredAt sv k ≡ true → wiredAt st k ≡ true) → Tame st sv k
+  recolored : first sv k ≡ first st k → 0 < first st k → (Shaped (second st k) → Shaped (second sv k)) → (wiredAt sv k ≡ true → wiredAt st k ≡ true) → Tame st sv k
 
 at-back : (st sv : State) (s p : ℕ) (side : Bool) (k : ℕ) → first sv k ≡ first st k → At sv s p side k → At st s p side k
 at-back st sv s p side k e a = record { below = a .below; space = a .space; page = a .page; group = a .group; word = sym e ∙ a .word }
@@ -75,18 +74,18 @@ tame-wired st sv k (same a b c) t = sym c ∙ t
 tame-wired st sv k (gone u) t = absurd (both-ways (wiredAt sv k) (u .wired) t)
 tame-wired st sv k (recolored a l f w) t = w t
 
-tame-used : (st sv : State) (k : ℕ) → first sv k ≡ first st k → frameOf (second sv k) ≡ frameOf (second st k) → Used st k → Used sv k
+tame-used : (st sv : State) (k : ℕ) → first sv k ≡ first st k → (Shaped (second st k) → Shaped (second sv k)) → Used st k → Used sv k
 tame-used st sv k a f u = record {
   space = u .space;
   page = u .page;
   side = u .side;
   at = at-back sv st (u .space) (u .page) (u .side) k (sym a) (u .at);
-  frame = subst (λ x. x < 256) (sym f) (u .frame);
+  shape = f (u .shape);
 }
 
 tame-slot : (st sv : State) (k : ℕ) → Tame st sv k → Unused st k ⊎ Used st k → Unused sv k ⊎ Used sv k
 tame-slot st sv k (same a b c) (inl u) = inl (record { first = a ∙ u .first; second = b ∙ u .second; wired = c ∙ u .wired })
-tame-slot st sv k (same a b c) (inr u) = inr (tame-used st sv k a (ap frameOf b) u)
+tame-slot st sv k (same a b c) (inr u) = inr (tame-used st sv k a (subst Shaped (sym b)) u)
 tame-slot st sv k (gone u) old = inl u
 tame-slot st sv k (recolored a l f w) (inl u) = absurd (omega (arith, u .first, l))
 tame-slot st sv k (recolored a l f w) (inr u) = inr (tame-used st sv k a f u)

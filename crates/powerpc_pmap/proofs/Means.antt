@@ -36,7 +36,7 @@ use Rattle.powerpc_pmap.proofs.Finds.{option-cases, lookup-finds}
 use Rattle.powerpc_pmap.proofs.Decoded.{entryAt, slotAt, table, slot-some, slot-unused, at-space, at-page}
 use Rattle.powerpc_pmap.proofs.Showing.{fits-place, shows, single}
 use Rattle.powerpc_pmap.proofs.Keeping.{tally-zero}
-use Rattle.powerpc_pmap.proofs.Colors.{touched-frame, touched-protection, touched-write-changed, touched-read-changed, lowered-frame, lowered-protection, lowered-changed}
+use Rattle.powerpc_pmap.proofs.Colors.{touched-shaped, lowered-shaped, touched-frame, touched-protection, touched-write-changed, touched-read-changed, lowered-frame, lowered-protection, lowered-changed}
 use Rattle.powerpc_pmap.proofs.Dropping.{used-maps, dropped-keeps, dropped-table}
 use Rattle.powerpc_pmap.proofs.Rewriting.{reworded-keeps, reworded-table, unwired-keeps, unwired-table}
 use Rattle.powerpc_pmap.proofs.Unmarking.{unmarked-keeps, unmarked-table}
@@ -141,7 +141,7 @@ module _ (st : State) (kept : Kept st) (s p : ℕ) (s-fits : s < 4) (p-fits : p 
   lower-at =
       let b = lowered (second st k) in
       let sv = reworded st k b in
-      let keeps = reworded-keeps st kept s p side k at b (lowered-frame (second st k)) in
+      let keeps = reworded-keeps st kept s p side k at b (lowered-frame (second st k)) (lowered-shaped (second st k)) in
       let R = reworded-table st kept s p side k at b (lowered-frame (second st k)) (λ t. lowered-changed (second st k) ∙ t) in (
         record {
           here = after-here sv keeps R
@@ -174,7 +174,7 @@ module _ (st : State) (kept : Kept st) (s p : ℕ) (s-fits : s < 4) (p-fits : p 
   access-at write =
       let b = touched write (second st k) in
       let sv = reworded st k b in
-      let keeps = reworded-keeps st kept s p side k at b (touched-frame write (second st k)) in
+      let keeps = reworded-keeps st kept s p side k at b (touched-frame write (second st k)) (touched-shaped write (second st k)) in
       let R = reworded-table st kept s p side k at b (touched-frame write (second st k)) (stays write) in (
         record {
           here = after-here sv keeps R

@@ -13,7 +13,7 @@ use Rattle.powerpc.specs.Fields.{frameOf, changed}
 use Rattle.powerpc.specs.State.{State, first, second, wiredAt}
 use Rattle.powerpc.specs.Changes.{reworded, unwiredAt}
 use Rattle.powerpc.proofs.HashLaws.{entry-above, spaceIn, pageIn}
-use Rattle.powerpc_pmap.specs.Kept.{At, Kept}
+use Rattle.powerpc_pmap.specs.Kept.{At, Shaped, Kept}
 use Rattle.powerpc_pmap.proofs.Decoded.{entryAt, slotAt, table, slot-used, slot-same, at-used}
 use Rattle.powerpc_pmap.proofs.Keeping.{Tame, same, recolored, kept-tame}
 
@@ -32,10 +32,10 @@ module _ (st : State) (kept : Kept st) (s p : ℕ) (side : Bool) (k : ℕ) (at :
     word-there : (j : ℕ) → (j ≡ k → ⊥) → second (reworded st k b) j ≡ second st j
     word-there j far = getD-set-other (st .words) (2 * k + 1) (2 * j + 1) b 0 (λ e. far (omega arith))
 
-    pub reworded-keeps : Kept (reworded st k b)
-    reworded-keeps = kept-tame st (reworded st k b) kept
+    pub reworded-keeps : (Shaped (second st k) → Shaped b) → Kept (reworded st k b)
+    reworded-keeps shape = kept-tame st (reworded st k b) kept
         (λ j _. ⊎-elim
-        (λ (q : j ≡ k). subst (Tame st (reworded st k b)) (sym q) (recolored (word-first k) above (ap frameOf word-here ∙ frame) (λ t. t)))
+        (λ (q : j ≡ k). subst (Tame st (reworded st k b)) (sym q) (recolored (word-first k) above (λ x. subst Shaped (sym word-here) (shape x)) (λ t. t)))
         (λ (q : j ≡ k → ⊥). same (word-first j) (word-there j q) refl)
         (cases-eq j k))
         (length-set (st .words) (2 * k + 1) b) refl refl (kept .next)
@@ -65,7 +65,7 @@ module _ (st : State) (kept : Kept st) (s p : ℕ) (side : Bool) (k : ℕ) (at :
   pub unwired-keeps : Kept (unwiredAt st (Some k))
   unwired-keeps = kept-tame st (unwiredAt st (Some k)) kept
       (λ j _. ⊎-elim
-      (λ (q : j ≡ k). subst (Tame st (unwiredAt st (Some k))) (sym q) (recolored refl above refl (λ t. absurd (both-ways _ off-here t))))
+      (λ (q : j ≡ k). subst (Tame st (unwiredAt st (Some k))) (sym q) (recolored refl above (λ x. x) (λ t. absurd (both-ways _ off-here t))))
       (λ (q : j ≡ k → ⊥). same refl refl (off-there j q))
       (cases-eq j k))
       refl refl (length-set (st .wired) k false) (kept .next)

@@ -15,10 +15,10 @@ use Rattle.powerpc.specs.Fields.{frameOf, protectionOf, changed, cleaned}
 use Rattle.powerpc.specs.State.{State, first, second, wiredAt}
 use Rattle.powerpc.specs.Changes.{maps, cleanWord, unmarked}
 use Rattle.powerpc.proofs.HashLaws.{spaceIn, pageIn}
-use Rattle.powerpc_pmap.specs.Kept.{Kept}
+use Rattle.powerpc_pmap.specs.Kept.{Shaped, Kept}
 use Rattle.powerpc_pmap.proofs.Decoded.{entryAt, table, slot-used, slot-unused, slot-past}
 use Rattle.powerpc_pmap.proofs.Keeping.{same, recolored, kept-tame}
-use Rattle.powerpc_pmap.proofs.Colors.{cleaned-frame, cleaned-protection, cleaned-changed}
+use Rattle.powerpc_pmap.proofs.Colors.{cleaned-shaped, cleaned-frame, cleaned-protection, cleaned-changed}
 use Rattle.powerpc_pmap.proofs.Dropping.{used-maps}
 
 maps-above : (st : State) (k f : ℕ) → maps (st .words) f k ≡ true → 0 < first st k
@@ -52,7 +52,7 @@ module _ (st : State) (kept : Kept st) (f : ℕ) where
   unfolding unmarked
   unmarked-keeps = kept-tame st (unmarked st f) kept
       (λ k b. ⊎-elim
-      (λ (t : maps (st .words) f k ≡ true). recolored (clean-first k b) (maps-above st k f t) (ap frameOf (clean-second k b ∙ cond-true _ _ _ t) ∙ cleaned-frame (second st k)) (λ w. sym (clean-wired k) ∙ w))
+      (λ (t : maps (st .words) f k ≡ true). recolored (clean-first k b) (maps-above st k f t) (λ x. subst Shaped (sym (clean-second k b ∙ cond-true _ _ _ t)) (cleaned-shaped (second st k) x)) (λ w. sym (clean-wired k) ∙ w))
       (λ (t : maps (st .words) f k ≡ false). same (clean-first k b) (clean-second k b ∙ cond-false _ _ _ t) (clean-wired k))
       (cases-bool (maps (st .words) f k)))
       (length-map-counting (cleanWord (st .words) f) 0 16384 ∙ sym (kept .words))

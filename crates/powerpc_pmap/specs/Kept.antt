@@ -2,10 +2,9 @@
 use mathlib.Core.Path.{_≡_}
 use mathlib.Core.Logic.{_⊎_}
 use mathlib.Core.Bool.{Bool, false}
-use Prim.Native.Nat.{ℕ, _/_, _<_, _≤_}
+use Prim.Native.Nat.{ℕ, _+_, _*_, _/_, _<_, _≤_}
 use lib.ListN.{length}
 use Rattle.pmap.specs.Tally.{tally}
-use Rattle.powerpc.specs.Fields.{frameOf}
 use Rattle.powerpc.specs.Hashing.{group, entryWord}
 use Rattle.powerpc.specs.State.{State, first, second, wiredAt}
 
@@ -23,13 +22,25 @@ pub record Unused (st : State) (k : ℕ) : Type 0 where
   pub second : second st k ≡ 0
   pub wired : wiredAt st k ≡ false
 
--- a slot in use: it has the first word of a place, and its frame is below 256
+-- the second word of a slot in use: frame, R, C and PP, all else zero
+pub record Shaped (w : ℕ) : Type 0 where
+  pub frame : ℕ
+  pub r : ℕ
+  pub c : ℕ
+  pub pp : ℕ
+  pub frame-below : frame < 256
+  pub r-below : r < 2
+  pub c-below : c < 2
+  pub pp-is : (pp ≡ 2) ⊎ (pp ≡ 3)
+  pub word : w ≡ frame * 4096 + r * 256 + c * 128 + pp
+
+-- a slot in use: it has the first word of a place, and a second word with a frame below 256
 pub record Used (st : State) (k : ℕ) : Type 0 where
   pub space : ℕ
   pub page : ℕ
   pub side : Bool
   pub at : At st space page side k
-  pub frame : frameOf (second st k) < 256
+  pub shape : Shaped (second st k)
 
 pub record Kept (st : State) : Type 0 where
   pub words : length (st .words) ≡ 16384

@@ -10,4 +10,4 @@ unfolding vsid hash group entryWord touched
 cases = (refl, refl, refl, refl, refl, refl, refl, refl)
 
 pub returns : need.returns
-returns c = cases
+returns c = record { answer = refl; cases = cases }

@@ -1,9 +1,12 @@
 use mathlib.Core.Path.{_≡_, sym, ap, _∙_}
 use mathlib.Core.Bool.{true, false}
+use Rattle.std.specs.Of.Vec.{vec-items}
+use Rattle.std.specs.declared.option.Option.the-variants.{Some}
 use Rattle.pmap.specs.Meaning.{allows}
 use Rattle.pmap.specs.declared.access.Access.the-variants.{Hit}
 use Rattle.powerpc.specs.Fields.{frameOf, protectionOf, touched}
 use Rattle.powerpc.specs.State.{state, second}
+use Rattle.powerpc.specs.Search.{lookup}
 use Rattle.powerpc.specs.Changes.{reworded}
 use Rattle.powerpc.proofs.CallLaws.{accessed-none, accessed-denied, accessed-hit, answered-none, answered-denied, answered-hit}
 use Rattle.powerpc.proofs.board.Board.touch.Needs as need
@@ -19,7 +22,7 @@ returns-in-rest c =
 pub returns-then-not-allows : need.returns-then-not-allows
 returns-then-not-allows c =
     let st = state (c .args .self .now) in
-    let found = sym (c .in-Some .ensures tt .value) in
+    let found : lookup (vec-items (c .args .self .now .words)) (c .args .space) (c .args .page) ≡ Some (c .in-Some .slot) = sym (c .in-Some .ensures tt .value) in
     let denied : allows (protectionOf (second st (c .in-Some .slot))) (c .args .write) ≡ false =
     ap (λ w. allows (protectionOf w) (c .args .write)) (sym (c .second-second .ensures .value))
     ∙ ap (λ q. allows q (c .args .write)) (sym (c .protection-of .ensures)) ∙ sym (c .if-not-allows .ensures tt) in
@@ -31,7 +34,7 @@ returns-then-not-allows c =
 pub returns : need.returns
 returns c =
     let st = state (c .args .self .now) in
-    let found = sym (c .in-Some .ensures tt .value) in
+    let found : lookup (vec-items (c .args .self .now .words)) (c .args .space) (c .args .page) ≡ Some (c .in-Some .slot) = sym (c .in-Some .ensures tt .value) in
     let allowed : allows (protectionOf (second st (c .in-Some .slot))) (c .args .write) ≡ true =
     ap (λ w. allows (protectionOf w) (c .args .write)) (sym (c .second-second .ensures .value))
     ∙ ap (λ q. allows q (c .args .write)) (sym (c .protection-of .ensures)) ∙ sym (c .if-not-allows .ensures tt) in
