@@ -12,3 +12,4 @@ pub mod Starts
 pub mod Wirings
 pub mod Choices
 pub mod Takes
+pub mod Enters

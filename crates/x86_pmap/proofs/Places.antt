@@ -72,7 +72,7 @@ module _ (s p : ℕ) (x : s < 4) (y : p < 262144) where
       forgotten-kept = one-kept (merged st (wordAt st (512 * t + linear s p % 512))) private-merged (linear s p) t 0 merged-reaches (inl refl)
           (one-fewer (merged st (wordAt st (512 * t + linear s p % 512))) private-merged (linear s p) t 0 merged-reaches (λ e. absurd (both-ways (wired 0) zero-wired e)))
 
-      forgotten-upper : (k : ℕ) → k < 3072 → Alike (wordAt st k) (wordAt (forgotten st (512 * t + linear s p % 512)) k)
+      pub forgotten-upper : (k : ℕ) → k < 3072 → Alike (wordAt st k) (wordAt (forgotten st (512 * t + linear s p % 512)) k)
       forgotten-upper k h = inl (written-there (merged st (wordAt st (512 * t + linear s p % 512))) private-merged (512 * t + linear s p % 512) 0 (omega (arith, r .low)) (omega (arith, r .high)) k (omega (arith, r .low)))
 
       pub forgotten-puts : Put (viewOf st) (viewOf (forgotten st (512 * t + linear s p % 512))) s p None
