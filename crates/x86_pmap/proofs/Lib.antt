@@ -13,3 +13,4 @@ pub mod Wirings
 pub mod Choices
 pub mod Takes
 pub mod Enters
+pub mod Meanings
