@@ -279,7 +279,8 @@ module _ (st : State) (gone : ℕ → Bool) (n : length (st .words) ≡ 8192) wh
         (λ (le : 8192 ≤ k). getD-past (map (λ j. cond (gone j) 0 (wordAt st j)) (counting 0 8192)) k 0 (omega (arith, length-map-counting (λ j. cond (gone j) 0 (wordAt st j)) 0 8192)) ∙ sym (both-zero (gone k) (getD-past (st .words) k 0 (omega arith))))
         (cases-lt k 8192);
     marks = λ f h. getD-map-counting (λ g. getD (st .marks) g false || anyDirty (st .words) gone g 8192) 0 256 f f false h (omega arith);
-    next = refl }
+    next = refl;
+  }
     where
       both-zero : (b : Bool) {w : ℕ} → w ≡ 0 → cond b 0 w ≡ 0
       both-zero true e = refl

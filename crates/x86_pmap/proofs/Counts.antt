@@ -44,7 +44,7 @@ module _ (p q : ℕ → Bool) where
 
   -- different numbers that pass the first go to different numbers that pass the second
   pub tally-inject : (n m : ℕ) (f : ℕ → ℕ) → ((k : ℕ) → k < n → p k ≡ true → (f k < m) × (q (f k) ≡ true))
-    → ((j k : ℕ) → j < n → k < n → p j ≡ true → p k ≡ true → f j ≡ f k → j ≡ k) → tally p n ≤ tally q m
+      → ((j k : ℕ) → j < n → k < n → p j ≡ true → p k ≡ true → f j ≡ f k → j ≡ k) → tally p n ≤ tally q m
   tally-inject n m f goes apart =
       tally-least q m (tally p n) (λ i. f (P .pick i)) (λ i h. goes (P .pick i) (P .below i h) (P .passes i h))
       (λ i j h l e. P .apart i j h l (apart (P .pick i) (P .pick j) (P .below i h) (P .below j l) (P .passes i h) (P .passes j l) e))

@@ -36,12 +36,12 @@ use Rattle.x86_pmap.proofs.Takes.{relinked-kept, relinked-same, here-points, l
 
 -- one position may become wired where fewer than eight others are
 few-entered : (st u : State) (own : Option Walk) (at : ℕ) → tally (wiredBeside st own) 8192 < 8
-  → ((k : ℕ) → 3072 ≤ k → k < 8192 → (k ≡ at → ⊥) → wired (wordAt u k) ≡ true → (wired (wordAt st k) ≡ true) × (isOwn own k ≡ false)) → tally (wiredLeaf u) 8192 ≤ 8
+    → ((k : ℕ) → 3072 ≤ k → k < 8192 → (k ≡ at → ⊥) → wired (wordAt u k) ≡ true → (wired (wordAt st k) ≡ true) × (isOwn own k ≡ false)) → tally (wiredLeaf u) 8192 ≤ 8
 few-entered st u own at few h =
     let less = tally-but-one (wiredLeaf u) (wiredBeside st own) at 8192 (λ k l far e.
-      let parts = and-parts (isLeaf k) _ e in
-      let q = h k (leb-true 3072 k (parts .0)) l far (parts .1) in
-      and-from _ _ (parts .0) (and-from _ _ (q .0) (ap not (q .1)))) in
+    let parts = and-parts (isLeaf k) _ e in
+    let q = h k (leb-true 3072 k (parts .0)) l far (parts .1) in
+    and-from _ _ (parts .0) (and-from _ _ (q .0) (ap not (q .1)))) in
     omega (arith, less, few)
 
 module _ (s p : ℕ) (x : s < 4) (y : p < 262144) (st : State) (K : Kept st) (f q : ℕ) (on : Bool) (low : f < 256) (right : (q ≡ 1) ⊎ (q ≡ 3)) (room : on ≡ true → crowded st s p ≡ false) where
@@ -59,7 +59,7 @@ module _ (s p : ℕ) (x : s < 4) (y : p < 262144) (st : State) (K : Kept st) (f 
 
   -- the word goes into an empty leaf word of the place
   module _ (v : State) (L : Kept v) (t : ℕ) (r : Reaches v (linear s p) t) (bare : wordAt v (512 * t + linear s p % 512) ≡ 0) (empty : viewOf v .held s p ≡ None)
-    (others : (k : ℕ) → 3072 ≤ k → k < 8192 → (k ≡ 512 * t + linear s p % 512 → ⊥) → wired (wordAt v k) ≡ true → (wired (wordAt st k) ≡ true) × (isOwn (walk (st .words) (linear s p)) k ≡ false)) where
+      (others : (k : ℕ) → 3072 ≤ k → k < 8192 → (k ≡ 512 * t + linear s p % 512 → ⊥) → wired (wordAt v k) ≡ true → (wired (wordAt st k) ≡ true) × (isOwn (walk (st .words) (linear s p)) k ≡ false)) where
     few : (b : Bool) → on ≡ b → tally (wiredLeaf (written v (512 * t + linear s p % 512) word)) 8192 ≤ 8
     few true e = few-entered st (written v (512 * t + linear s p % 512) word) (walk (st .words) (linear s p)) (512 * t + linear s p % 512) (crowded-few s p x y st K (room e))
         (λ k a b far h. others k a b far (sym (ap wired (written-there v L (512 * t + linear s p % 512) word (omega (arith, r .low)) (omega (arith, r .high)) k far)) ∙ h))
@@ -87,8 +87,8 @@ module _ (s p : ℕ) (x : s < 4) (y : p < 262144) (st : State) (K : Kept st) (f 
 
   -- the place has a leaf
   install-there : (t : ℕ) → Reaches st (linear s p) t
-    → Kept (written (forgotten st (512 * t + linear s p % 512)) (512 * t + linear s p % 512) word)
-    × PutForgetting (viewOf st) (viewOf (written (forgotten st (512 * t + linear s p % 512)) (512 * t + linear s p % 512) word)) s p (Some (f, q, on)) (viewOf st .modified)
+      → Kept (written (forgotten st (512 * t + linear s p % 512)) (512 * t + linear s p % 512) word)
+      × PutForgetting (viewOf st) (viewOf (written (forgotten st (512 * t + linear s p % 512)) (512 * t + linear s p % 512) word)) s p (Some (f, q, on)) (viewOf st .modified)
   install-there t r = (filled-kept v L t rv bare (first .here) others, enters (viewOf st) (viewOf v) (viewOf v) (viewOf (written v k word)) s p (f, q, on) first (λ a b. inl refl) refl (filled-there v L t rv bare (first .here) others))
     where
       k : ℕ
@@ -117,8 +117,8 @@ module _ (s p : ℕ) (x : s < 4) (y : p < 262144) (st : State) (K : Kept st) (f 
 
   -- a leaf is taken for the place
   install-fresh : wordAt st (1024 + linear s p / 512) ≡ 0
-    → Kept (written (taken st (freeLeaf st) s p) (leafAt (freeLeaf st) p) word)
-    × PutForgetting (viewOf st) (viewOf (written (taken st (freeLeaf st) s p) (leafAt (freeLeaf st) p) word)) s p (Some (f, q, on)) (viewOf st .modified)
+      → Kept (written (taken st (freeLeaf st) s p) (leafAt (freeLeaf st) p) word)
+      × PutForgetting (viewOf st) (viewOf (written (taken st (freeLeaf st) s p) (leafAt (freeLeaf st) p) word)) s p (Some (f, q, on)) (viewOf st .modified)
   install-fresh z =
       rw at-is (filled-kept v L t rv bare empty others, enters (viewOf st) (viewOf st) (viewOf v) (viewOf (written v k word)) s p (f, q, on) (put-nothing (viewOf st) s p None nothing) mid marks (filled-there v L t rv bare empty others))
     where
@@ -183,12 +183,13 @@ module _ (s p : ℕ) (x : s < 4) (y : p < 262144) (st : State) (K : Kept st) (f 
       bare = leaf-is k (omega (arith, t-low)) (omega (arith, t-high)) ∙ bare₁ k (omega arith)
 
       others : (i : ℕ) → 3072 ≤ i → i < 8192 → (i ≡ k → ⊥) → wired (wordAt v i) ≡ true → (wired (wordAt st i) ≡ true) × (isOwn (walk (st .words) (linear s p)) i ≡ false)
-      others i a b far h =
-          (⊎-elim
-          (λ (g : inLeaf t i ≡ true). absurd (both-ways (wired (wordAt v i)) (ap wired (leaf-is i a b ∙ emptied-word st K (inLeaf t) leaf i ∙ cond-true _ 0 (wordAt st i) g) ∙ zero-wired) h))
-          (λ (g : inLeaf t i ≡ false). ap wired (sym (leaf-is i a b ∙ emptied-word st K (inLeaf t) leaf i ∙ cond-false _ 0 (wordAt st i) g)) ∙ h)
-          (cases-bool (inLeaf t i))
-          , ap (λ o. isOwn o i) (walk-nothing st K (linear s p) (page-inside s p x y) z))
+      others i a b far h = (
+        ⊎-elim
+            (λ (g : inLeaf t i ≡ true). absurd (both-ways (wired (wordAt v i)) (ap wired (leaf-is i a b ∙ emptied-word st K (inLeaf t) leaf i ∙ cond-true _ 0 (wordAt st i) g) ∙ zero-wired) h))
+            (λ (g : inLeaf t i ≡ false). ap wired (sym (leaf-is i a b ∙ emptied-word st K (inLeaf t) leaf i ∙ cond-false _ 0 (wordAt st i) g)) ∙ h)
+            (cases-bool (inLeaf t i)),
+        ap (λ o. isOwn o i) (walk-nothing st K (linear s p) (page-inside s p x y) z),
+      )
 
       E : Emptied (table st) (table e₁) (pagesIn st (inLeaf t))
       E = emptying-slots st e₁ K K₁ (λ i h. inl (emptied-upper st K (inLeaf t) leaf i h)) (inLeaf t) leaf (emptied-emptying st (inLeaf t) (K .size))

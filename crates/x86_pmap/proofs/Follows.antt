@@ -44,7 +44,7 @@ module _ (st v : State) (K : Kept st) (L : Kept v) (upper : (k : ℕ) → k < 30
 
   -- a slot before and after: nothing in both, or the leaf word at the same position
   pub both-slots : (P : ℕ → Option Entry → Option Entry → Type 0) → ((n : ℕ) → P n None None)
-    → ((n t : ℕ) → Reaches st n t → P n (slotIn n (wordAt st (512 * t + n % 512))) (slotIn n (wordAt v (512 * t + n % 512)))) → (n : ℕ) → P n (slotOf st n) (slotOf v n)
+      → ((n t : ℕ) → Reaches st n t → P n (slotIn n (wordAt st (512 * t + n % 512))) (slotIn n (wordAt v (512 * t + n % 512)))) → (n : ℕ) → P n (slotOf st n) (slotOf v n)
   both-slots P nothing reach n = ⊎-elim
       (λ (h : n < 1048576). ⊎-elim
       (λ z. rw (slot-nothing st K n h z, slot-nothing v L n h (alike-zero _ _ (upper (1024 + n / 512) (omega arith)) z)) (nothing n))
@@ -66,7 +66,7 @@ either-none false = refl
 
 -- the mark of every frame after positions are emptied
 module _ (st v : State) (gone : ℕ → Bool) (size : length (st .marks) ≡ 256) (size′ : length (v .marks) ≡ 256)
-  (marks : (f : ℕ) → f < 256 → getD (v .marks) f false ≡ (getD (st .marks) f false || anyDirty (st .words) gone f 8192)) where
+    (marks : (f : ℕ) → f < 256 → getD (v .marks) f false ≡ (getD (st .marks) f false || anyDirty (st .words) gone f 8192)) where
   mark-back : (f : ℕ) → getD (v .marks) f false ≡ true → f < 256
   mark-back f e = ⊎-elim (λ (l : f < 256). l) (λ (l : 256 ≤ f). absurd (both-ways (getD (v .marks) f false) (getD-past (v .marks) f false (omega arith)) e)) (cases-lt f 256)
 
@@ -101,7 +101,7 @@ module _ (st v : State) (gone : ℕ → Bool) (size : length (st .marks) ≡ 256
 
 -- positions of leaves are emptied
 pub emptying-slots : (st v : State) (K : Kept st) (L : Kept v) → ((k : ℕ) → k < 3072 → Alike (wordAt st k) (wordAt v k)) → (gone : ℕ → Bool) → ((k : ℕ) → gone k ≡ true → 3072 ≤ k) → Emptying st v gone
-  → Emptied (table st) (table v) (pagesIn st gone)
+    → Emptied (table st) (table v) (pagesIn st gone)
 emptying-slots st v K L upper gone leaf E =
     emptied-from st v gone (K .marked) (L .marked) (E .marks) K leaf
     (both-slots st v K L upper (λ n a b. b ≡ cond (pagesIn st gone n) None a) (λ n. either-none (pagesIn st gone n)) reach)

@@ -14,3 +14,4 @@ pub mod Choices
 pub mod Takes
 pub mod Enters
 pub mod Meanings
+pub mod Hardware

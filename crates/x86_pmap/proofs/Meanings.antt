@@ -36,7 +36,7 @@ unchanged st u e K = (subst (λ i. Same (viewOf st) (viewOf i)) (sym e) (same-vi
 
 -- a call that names a place does what it does, or is refused
 module _ {U : Type 0} (st after u : State) (s p : ℕ) (a : U) (r : Result U PmapRefusal) (Done : View → U → Type 0) (K : Kept st)
-  (done : s < 4 → p < 262144 → Kept after × Done (viewOf after) a) (answer : r ≡ atPlace s p a) (then : u ≡ placed s p after st) where
+    (done : s < 4 → p < 262144 → Kept after × Done (viewOf after) a) (answer : r ≡ atPlace s p a) (then : u ≡ placed s p after st) where
   pub place-means : AtPlace (viewOf st) (viewOf u) s p r (Done (viewOf u)) × Kept u
   place-means = ⊎-elim
       (λ (f : fitsPlace s p ≡ true).
@@ -51,7 +51,7 @@ module _ {U : Type 0} (st after u : State) (s p : ℕ) (a : U) (r : Result U Pma
 
 -- a call that names a frame, likewise
 module _ {U : Type 0} (st after u : State) (f : ℕ) (a : U) (r : Result U PmapRefusal) (Done : View → U → Type 0) (K : Kept st)
-  (done : f < 256 → Kept after × Done (viewOf after) a) (answer : r ≡ atFrame f a) (then : u ≡ framed f after st) where
+    (done : f < 256 → Kept after × Done (viewOf after) a) (answer : r ≡ atFrame f a) (then : u ≡ framed f after st) where
   pub frame-means : AtFrame (viewOf st) (viewOf u) f r (Done (viewOf u)) × Kept u
   frame-means = ⊎-elim
       (λ (h : fitsFrame f ≡ true).
@@ -81,7 +81,7 @@ module _ {U : Type 0} (st u : State) (K : Kept st) (f : ℕ) (done : U) (r : Res
   unmarks = frame-means st (unmarked st f) u f done r (λ w _. Unmarked (viewOf st) w f) K (λ h. unmark-means st K f h)
 
 pub accesses : (st u : State) → Kept st → (s p : ℕ) (write : Bool) (r : Result Access PmapRefusal)
-  → r ≡ atPlace s p (accessAnswer st s p write) → u ≡ placed s p (accessed st s p write) st → Accesses (viewOf st) (viewOf u) s p write r × Kept u
+    → r ≡ atPlace s p (accessAnswer st s p write) → u ≡ placed s p (accessed st s p write) st → Accesses (viewOf st) (viewOf u) s p write r × Kept u
 accesses st u K s p write r =
     place-means st (accessed st s p write) u s p (accessAnswer st s p write) r
     (λ w a. (a ≡ answered (viewOf st .held s p) write) × Accessed (viewOf st) w s p write a) K
@@ -105,8 +105,7 @@ pub clears : (u : State) → u ≡ started → Cleared (viewOf u) × Kept u
 clears u e = (subst (λ i. Cleared (viewOf i)) (sym e) start-cleared, subst Kept (sym e) start-kept)
 
 module _ {U : Type 0} (st u : State) (K : Kept st) (s p f q : ℕ) (on : Bool) (done : U) (r : Result U PmapRefusal)
-  (answer : r ≡ enterAnswer st s p f q on done) (then : u ≡ entered st s p f q on) where
-
+    (answer : r ≡ enterAnswer st s p f q on done) (then : u ≡ entered st s p f q on) where
   -- a number out of range
   out-of-range : fitsEntry s p f q ≡ false → Enters (viewOf st) (viewOf u) s p f q on r × Kept u
   out-of-range h =
@@ -128,18 +127,21 @@ module _ {U : Type 0} (st u : State) (K : Kept st) (s p f q : ℕ) (on : Bool) (
     full g =
         let parts = and-parts on (crowded st s p) g in
         let b = fits-both s p fits-place in
-        let n = unchanged st u (then ∙ cond-true (fitsEntry s p f q) _ st h ∙ cond-true (on && crowded st s p) st _ g) K in
-        (subst (λ x. Enters (viewOf st) (viewOf u) s p f q on x) (sym (answer ∙ cond-true (fitsEntry s p f q) _ (Err Range) h ∙ cond-true (on && crowded st s p) (Err WiredFull) (Ok done) g))
-        ((h, parts .0, crowded-means s p (b .0) (b .1) st K (parts .1)), n .0), n .1)
+        let n = unchanged st u (then ∙ cond-true (fitsEntry s p f q) _ st h ∙ cond-true (on && crowded st s p) st _ g) K in (
+          subst (λ x. Enters (viewOf st) (viewOf u) s p f q on x) (sym (answer ∙ cond-true (fitsEntry s p f q) _ (Err Range) h ∙ cond-true (on && crowded st s p) (Err WiredFull) (Ok done) g))
+              ((h, parts .0, crowded-means s p (b .0) (b .1) st K (parts .1)), n .0),
+          n .1,
+        )
 
     -- there is room
     passes : (on && crowded st s p) ≡ false → Enters (viewOf st) (viewOf u) s p f q on r × Kept u
     passes g =
         let m = enter-means s p (b .0) (b .1) st K f q on frame-low right free in
-        let e : u ≡ installed st s p (leafWord f q on) = then ∙ cond-true (fitsEntry s p f q) _ st h ∙ cond-false (on && crowded st s p) st _ g in
-        (subst (λ x. Enters (viewOf st) (viewOf u) s p f q on x) (sym (answer ∙ cond-true (fitsEntry s p f q) _ (Err Range) h ∙ cond-false (on && crowded st s p) (Err WiredFull) (Ok done) g))
-        (record { fits = h; room = λ w. crowded-not s p (b .0) (b .1) st K (free w) }, subst (λ i. PutForgetting (viewOf st) (viewOf i) s p (Some (f, q, on)) (viewOf st .modified)) (sym e) (m .1))
-        , subst Kept (sym e) (m .0))
+        let e : u ≡ installed st s p (leafWord f q on) = then ∙ cond-true (fitsEntry s p f q) _ st h ∙ cond-false (on && crowded st s p) st _ g in (
+          subst (λ x. Enters (viewOf st) (viewOf u) s p f q on x) (sym (answer ∙ cond-true (fitsEntry s p f q) _ (Err Range) h ∙ cond-false (on && crowded st s p) (Err WiredFull) (Ok done) g))
+              (record { fits = h; room = λ w. crowded-not s p (b .0) (b .1) st K (free w) }, subst (λ i. PutForgetting (viewOf st) (viewOf i) s p (Some (f, q, on)) (viewOf st .modified)) (sym e) (m .1)),
+          subst Kept (sym e) (m .0),
+        )
       where
         b : (s < 4) × (p < 262144)
         b = fits-both s p fits-place

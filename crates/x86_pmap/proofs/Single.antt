@@ -56,7 +56,7 @@ module _ (st : State) (K : Kept st) (n t w : ℕ) (r : Reaches st n t) where
 
     -- a word in use is rewritten with the same frame
     pub one-rewritten : Mapped (wordAt st (512 * t + n % 512)) → Mapped w → frameOf w ≡ frameOf (wordAt st (512 * t + n % 512)) → (dirty (wordAt st (512 * t + n % 512)) ≡ true → dirty w ≡ true)
-      → Rewritten (table st) (table (written st (512 * t + n % 512) w)) n (entryOf n (wordAt st (512 * t + n % 512))) (entryOf n w)
+        → Rewritten (table st) (table (written st (512 * t + n % 512) w)) n (entryOf n (wordAt st (512 * t + n % 512))) (entryOf n w)
     one-rewritten m m′ frame stays = record {
       was = slot-reached st K n t r ∙ cond-true _ _ None (mapped-present _ m);
       slots = λ j. one-slot j ∙ ap (λ x. cond (eqb j n) x (slotOf st j)) (cond-true _ _ None (mapped-present _ m′));
@@ -64,7 +64,8 @@ module _ (st : State) (K : Kept st) (n t w : ℕ) (r : Reaches st n t) where
       page = refl;
       frame = frame;
       stays = stays;
-      marks = λ f. refl }
+      marks = λ f. refl;
+    }
 
     -- an empty word is filled
     pub one-filled : wordAt st (512 * t + n % 512) ≡ 0 → Mapped w → dirty w ≡ false → Filled (table st) (table (written st (512 * t + n % 512) w)) n (entryOf n w)
@@ -72,7 +73,8 @@ module _ (st : State) (K : Kept st) (n t w : ℕ) (r : Reaches st n t) where
       empty = slot-reached st K n t r ∙ ap (slotIn n) z ∙ cond-false _ _ None zero-present;
       slots = λ j. one-slot j ∙ ap (λ x. cond (eqb j n) x (slotOf st j)) (cond-true _ _ None (mapped-present _ m));
       clean = clean;
-      marks = λ f. refl }
+      marks = λ f. refl;
+    }
 
     -- an empty word stays empty
     pub one-unchanged : wordAt st (512 * t + n % 512) ≡ 0 → w ≡ 0 → Unchanged (table st) (table (written st (512 * t + n % 512) w))
@@ -81,7 +83,8 @@ module _ (st : State) (K : Kept st) (n t w : ℕ) (r : Reaches st n t) where
           (λ (q : j ≡ n). cond-true _ _ _ (eq-eqb j n q) ∙ ap (slotIn n) (e ∙ sym z) ∙ sym (slot-reached st K n t r) ∙ ap (slotOf st) (sym q))
           (λ (q : j ≡ n → ⊥). cond-false _ _ _ (ne-eqb j n q))
           (cases-eq j n);
-      marks = λ f. refl }
+      marks = λ f. refl;
+    }
 
   -- the change keeps the facts, unless too many are wired then
   pub one-kept : (w ≡ 0) ⊎ Mapped w → tally (wiredLeaf (written st (512 * t + n % 512) w)) 8192 ≤ 8 → Kept (written st (512 * t + n % 512) w)

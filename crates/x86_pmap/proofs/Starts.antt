@@ -39,9 +39,9 @@ unfolding startWord
 start-blank k h far =
     cond-false (eqb k 0) _ _ (ne-eqb k 0 (omega arith))
     ∙ ⊎-elim
-      (λ (e : (leb 512 k && ltb k 516) ≡ true). let parts = and-parts (leb 512 k) (ltb k 516) e in absurd (far (leb-true 512 k (parts .0)) (ltb-true k 516 (parts .1))))
-      (λ (e : (leb 512 k && ltb k 516) ≡ false). cond-false _ _ 0 e)
-      (cases-bool (leb 512 k && ltb k 516))
+    (λ (e : (leb 512 k && ltb k 516) ≡ true). let parts = and-parts (leb 512 k) (ltb k 516) e in absurd (far (leb-true 512 k (parts .0)) (ltb-true k 516 (parts .1))))
+    (λ (e : (leb 512 k && ltb k 516) ≡ false). cond-false _ _ 0 e)
+    (cases-bool (leb 512 k && ltb k 516))
 
 start-zero : (k : ℕ) → 1024 ≤ k → k < 8192 → wordAt started k ≡ 0
 start-zero k p h = start-word k h ∙ start-blank k (omega arith) (λ a b. omega arith)
@@ -74,7 +74,8 @@ start-kept = record {
   directories = λ k p h. inl (start-zero k p (omega arith));
   single = λ j k t a b c d p q. absurd (points-some _ t p (start-zero j a (omega arith)));
   leaves = λ k p h. inl (start-zero k (omega arith) h);
-  few = let none = tally-zero (wiredLeaf started) 8192 (λ k h. unwired k h) in omega (arith, none) }
+  few = let none = tally-zero (wiredLeaf started) 8192 (λ k h. unwired k h) in omega (arith, none);
+}
   where
     unwired : (k : ℕ) → k < 8192 → wiredLeaf started k ≡ false
     unwired k h = ⊎-elim
@@ -94,7 +95,8 @@ start-cleared = record {
       cond-true (fitsPlace a b) (found started a b) None e ∙ found-nothing started start-kept a b (linear a b) (omega arith) refl (start-zero (1024 + linear a b / 512) (omega arith) (omega arith)))
       (λ (e : fitsPlace a b ≡ false). cond-false (fitsPlace a b) (found started a b) None e)
       (cases-bool (fitsPlace a b));
-  marks = fun-ext (λ f. or-from (getD (started .marks) f false) (anyDirty (started .words) isLeaf f 8192) (unmarked f) (clean f)) }
+  marks = fun-ext (λ f. or-from (getD (started .marks) f false) (anyDirty (started .words) isLeaf f 8192) (unmarked f) (clean f));
+}
   where
     unmarked : (f : ℕ) → getD (started .marks) f false ≡ false
     unmarked f = ap (λ ms. getD ms f false) start-marks ∙ ⊎-elim

@@ -77,7 +77,8 @@ module _ (st : State) (K : Kept st) where
       low = low;
       high = high;
       points = p;
-      walks = walk-leaf (st .words) n 0 at-root 1 (512 + n / 262144) to-entry at-entry (2 + n / 262144) (1024 + n / 512) to-directory at-directory t (512 * t + n % 512) (sym (points-table _ t p (omega arith))) (omega arith) }
+      walks = walk-leaf (st .words) n 0 at-root 1 (512 + n / 262144) to-entry at-entry (2 + n / 262144) (1024 + n / 512) to-directory at-directory t (512 * t + n % 512) (sym (points-table _ t p (omega arith))) (omega arith);
+    }
 
     -- the directory word of a page is zero, or the walk comes to a leaf
     pub page-cases : (wordAt st (1024 + n / 512) ≡ 0) ⊎ ((t : ℕ) × Reaches st n t)
@@ -136,7 +137,8 @@ module _ (st : State) (K : Kept st) where
         page = n;
         reaches = r;
         at = back;
-        slot = slot-reached st K n (k / 512) r ∙ ap (λ j. slotIn n (wordAt st j)) back ∙ cond-true _ (Some (entryOf n (wordAt st k))) None (mapped-present _ m) }
+        slot = slot-reached st K n (k / 512) r ∙ ap (λ j. slotIn n (wordAt st j)) back ∙ cond-true _ (Some (entryOf n (wordAt st k))) None (mapped-present _ m);
+      }
         where
           n : ℕ
           n = (o .at - 1024) * 512 + k % 512
@@ -206,7 +208,8 @@ module _ (st : State) (K : Kept st) where
                 entry = entryOf (linear a b) w;
                 found = slot-reached st K (linear a b) t r ∙ cond-true _ _ None p;
                 space = omega arith;
-                page = omega arith })
+                page = omega arith;
+              })
               (λ (p : present w ≡ false). absurd (none-some (sym (found-reached a b (linear a b) t r refl ∙ cond-false _ _ None p) ∙ g)))
               (cases-bool (present w))
             where
@@ -241,4 +244,5 @@ module _ (st : State) (K : Kept st) where
         (λ d. let x = any-dirty (st .words) isLeaf f 8192 .0 d in
         let parts = and-parts (isLeaf (x .0)) _ (x .2) in
         inr (word-bit (x .0) f (leb-true 3072 (x .0) (parts .0)) (x .1) (parts .1)))
-        (or-cases (getD (st .marks) f false) (anyDirty (st .words) isLeaf f 8192) e) }
+        (or-cases (getD (st .marks) f false) (anyDirty (st .words) isLeaf f 8192) e);
+  }

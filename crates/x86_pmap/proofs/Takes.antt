@@ -30,7 +30,7 @@ use Rattle.x86_pmap.proofs.Choices.{after-low, after-high}
 
 -- an empty leaf t, and a directory word j that is zero: the words that point to t are emptied, and j comes to point to it
 module _ (st : State) (K : Kept st) (t j : ℕ) (low : 6 ≤ t) (high : t ≤ 15) (j-low : 1024 ≤ j) (j-high : j < 3072) (zero-j : wordAt st j ≡ 0)
-  (bare : (k : ℕ) → k / 512 ≡ t → wordAt st k ≡ 0) where
+    (bare : (k : ℕ) → k / 512 ≡ t → wordAt st k ≡ 0) where
   abbrev after : State
   after = linked (unlinked st t) t j
 
@@ -93,9 +93,10 @@ module _ (st : State) (K : Kept st) (t j : ℕ) (low : 6 ≤ t) (high : t ≤ 15
 
   -- a word other than j that points somewhere is as before, and does not point to t
   after-points : (k u : ℕ) → 1024 ≤ k → k < 3072 → (k ≡ j → ⊥) → Points (wordAt after k) u → (Points (wordAt st k) u) × (u ≡ t → ⊥)
-  after-points k u p h far q = elim (after-cases k p h far)
-      [ gone z ↦ absurd (points-some _ u q z)
-      | kept v w ne a b e ↦ (let r : Points (wordAt st k) u = subst (λ x. Points x u) e q in (r, λ s. ne (points-same _ v u w r ∙ s))) ]
+  after-points k u p h far q = elim (after-cases k p h far) [
+    | gone z ↦ absurd (points-some _ u q z)
+    | kept v w ne a b e ↦ (let r : Points (wordAt st k) u = subst (λ x. Points x u) e q in (r, λ s. ne (points-same _ v u w r ∙ s)))
+  ]
 
   pub relinked-kept : Kept after
   relinked-kept = record {
@@ -108,16 +109,18 @@ module _ (st : State) (K : Kept st) (t j : ℕ) (low : 6 ≤ t) (high : t ≤ 15
     blank = λ k p h q. top-word k h ∙ K .blank k p h q;
     directories = λ k p h. ⊎-elim
         (λ (e : k ≡ j). inr (record { leaf = t; low = low; high = high; points = subst (λ i. Points (wordAt after i) t) (sym e) here-points }))
-        (λ (e : k ≡ j → ⊥). elim (after-cases k p h e)
-        [ gone z ↦ inl z
-        | kept u w ne a b q ↦ inr (record { leaf = u; low = a; high = b; points = subst (λ x. Points x u) (sym q) w }) ])
+        (λ (e : k ≡ j → ⊥). elim (after-cases k p h e) [
+          | gone z ↦ inl z
+          | kept u w ne a b q ↦ inr (record { leaf = u; low = a; high = b; points = subst (λ x. Points x u) (sym q) w })
+        ])
         (cases-eq k j);
     single = single;
     leaves = λ k p h. ⊎-elim
         (λ z. inl (leaf-word k p h ∙ z))
         (λ m. inr (subst Mapped (sym (leaf-word k p h)) (m .0), owner k (m .1) (λ e. mapped-not k (m .0) (bare k e))))
         (K .leaves k p h);
-    few = fewer st after K (λ k p h e. sym (ap wired (leaf-word k p h)) ∙ e) }
+    few = fewer st after K (λ k p h e. sym (ap wired (leaf-word k p h)) ∙ e);
+  }
     where
       mapped-not : (k : ℕ) → Mapped (wordAt st k) → wordAt st k ≡ 0 → ⊥
       mapped-not k m z = omega (arith, m .is, z)

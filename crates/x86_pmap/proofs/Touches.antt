@@ -31,7 +31,8 @@ touching-more a b c p q = record {
   same = record { held = λ s g. q .same .held s g ∙ p .same .held s g; marks = q .same .marks ∙ p .same .marks };
   reaches = λ n t r. q .reaches n t (p .reaches n t r);
   leaf = λ k h. q .leaf k h ∙ p .leaf k h;
-  marks = q .marks ∙ p .marks }
+  marks = q .marks ∙ p .marks;
+}
 
 module _ (st : State) (K : Kept st) (at : ℕ) (low : at < 3072) (some : wordAt st at ≡ 0 → ⊥) where
   v : State
@@ -44,7 +45,8 @@ module _ (st : State) (K : Kept st) (at : ℕ) (low : at < 3072) (some : wordAt 
         (record { slots = both-slots st u K L upper (λ n a b. b ≡ a) (λ n. refl) (λ n t r. ap (slotIn n) (leaf (512 * t + n % 512) (omega (arith, r .low)))); marks = λ f. refl });
     reaches = reaches-on st u K L upper;
     leaf = leaf;
-    marks = refl }
+    marks = refl;
+  }
     where
       u : State
       u = rewritten st at touched
@@ -63,6 +65,11 @@ module _ (st : State) (K : Kept st) (at : ℕ) (low : at < 3072) (some : wordAt 
 
       L : Kept u
       L = kin-kept st u K
-          (record { size = length-set (st .words) at (touched (wordAt st at)) ∙ K .size; marked = K .marked; next = refl; upper = upper;
-            lower = λ k p h. ⊎-elim (λ z. inl (leaf k p ∙ z)) (λ m. rw (leaf k p) (inr m)) (K .leaves k p h) })
+          (record {
+            size = length-set (st .words) at (touched (wordAt st at)) ∙ K .size;
+            marked = K .marked;
+            next = refl;
+            upper = upper;
+            lower = λ k p h. ⊎-elim (λ z. inl (leaf k p ∙ z)) (λ m. rw (leaf k p) (inr m)) (K .leaves k p h);
+          })
           (fewer st u K (λ k p h e. sym (ap wired (leaf k p)) ∙ e))

@@ -13,7 +13,6 @@ use Rattle.std.proofs.shelf.Lists.{getD-past}
 use Rattle.pmap.specs.Meaning.{Crowded}
 use Rattle.pmap.specs.Tally.{tally}
 use Rattle.slots.specs.Slots.{Entry, wiredElsewhere}
-
 use Rattle.slots.proofs.Shown.{crowded as slots-crowded, not-crowded as slots-not-crowded}
 use Rattle.x86.specs.declared.walk.Walk.{Walk}
 use Rattle.x86.specs.Words.{wired}
@@ -135,9 +134,11 @@ module _ (s p : ℕ) (x : s < 4) (y : p < 262144) (st : State) (K : Kept st) whe
           let e = slot-entry n h in
           let u = slot-used st K n (e .0) (e .1) in
           let r = u .reaches in
-          rw (position-is n (u .leaf) r)
-          (omega (arith, r .high), and-from _ _ (le-leb 3072 (512 * u .leaf + n % 512) (omega (arith, r .low)))
-          (and-from _ _ (sym (ap (λ z. z .wired) (u .is)) ∙ e .2) (ap not (not-own n (u .leaf) r (sym (ap (λ z. eqb (z .space) s && eqb (z .page) p) (u .is)) ∙ e .3)))))
+          rw (position-is n (u .leaf) r) (
+            omega (arith, r .high),
+            and-from _ _ (le-leb 3072 (512 * u .leaf + n % 512) (omega (arith, r .low)))
+                (and-from _ _ (sym (ap (λ z. z .wired) (u .is)) ∙ e .2) (ap not (not-own n (u .leaf) r (sym (ap (λ z. eqb (z .space) s && eqb (z .page) p) (u .is)) ∙ e .3)))),
+          )
 
       apart : (n m : ℕ) → n < 1048576 → m < 1048576 → slots n ≡ true → slots m ≡ true → position-of n ≡ position-of m → n ≡ m
       apart n m a b g h e =
