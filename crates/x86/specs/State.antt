@@ -5,7 +5,7 @@
 -- leaves. Beside the table stand a modified mark for each of the 256 frames, and the counter: the leaf to look at first
 -- when one has to be taken.
 use mathlib.Core.List.{List, map}
-use mathlib.Core.Bool.{Bool, true, false, cond, not, _&&_, _||_}
+use mathlib.Core.Bool.{Bool, false, cond, not, _&&_, _||_}
 use Prim.Native.Nat.{ℕ, zero, suc, _+_, _-_, _*_, _/_, _%_}
 use lib.ListN.{getD, set, replicate}
 use lib.Dec.{eqb, ltb, leb}
@@ -17,7 +17,7 @@ use Rattle.pmap.specs.declared.access.Access.the-variants.{Hit, Miss}
 use Rattle.pmap.specs.Meaning.{Mapping}
 use Rattle.pmap.specs.Tally.{tally}
 use Rattle.x86.specs.declared.walk.Walk.{Walk}
-use Rattle.x86.specs.Words.{present, dirty, wired, frameOf, protectionOf, pointer, pointsTo, touched, cleaned, readOnly, unwired, hitWord, serves, maps, dirtyIn}
+use Rattle.x86.specs.Words.{present, dirty, wired, frameOf, protectionOf, pointer, pointsTo, touched, cleaned, hitWord, serves, maps, dirtyIn}
 use Rattle.x86.specs.Walks.{linear, walk}
 
 pub record State : Type 0 where

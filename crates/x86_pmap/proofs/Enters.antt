@@ -1,29 +1,29 @@
 -- Enter: the place comes to hold the given mapping; only unwired mappings elsewhere go.
 use mathlib.Core.Path.{_≡_, refl, sym, ap, _∙_, subst}
 use mathlib.Core.Logic.{_⊎_, inl, inr, ⊎-elim}
-use mathlib.Core.Bool.{Bool, true, false, cond, not, _&&_, _||_}
+use mathlib.Core.Bool.{Bool, true, false, cond, not}
 use Prim.Native.Nat.{ℕ, _+_, _-_, _*_, _/_, _%_, _<_, _≤_}
 use native.Mathlib.Omega.{arith}
-use lib.Dec.{eqb, leb}
+use lib.Dec.{eqb}
 use Rattle.std.specs.declared.option.Option.{Option}
 use Rattle.std.specs.declared.option.Option.the-variants.{Some, None}
-use Rattle.std.proofs.shelf.Tests.{and-parts, and-from, cases-eq, cases-bool, cond-true, cond-false, eq-eqb, ne-eqb, eqb-true, leb-true, both-ways}
-use Rattle.pmap.specs.Meaning.{View, Mapping, Same, Put, PutForgetting, Stays}
+use Rattle.std.proofs.shelf.Tests.{and-parts, and-from, cases-bool, cond-true, cond-false, eq-eqb, ne-eqb, eqb-true, leb-true, both-ways}
+use Rattle.pmap.specs.Meaning.{Mapping, Same, Put, PutForgetting, Stays}
 use Rattle.pmap.specs.Tally.{tally}
 use Rattle.slots.specs.Slots.{Entry, mappingOf}
 use Rattle.slots.specs.Changes.{Emptied}
 use Rattle.slots.proofs.Shown.{filled-puts, enters, emptied-stays}
 use Rattle.slots.proofs.Shown.{emptied-marks as stays-marks}
 use Rattle.x86.specs.declared.walk.Walk.{Walk}
-use Rattle.x86.specs.Words.{dirty, wired, writable, frameOf, protectionOf, leafWord}
+use Rattle.x86.specs.Words.{wired, protectionOf, leafWord}
 use Rattle.x86.specs.Walks.{linear, walk}
 use Rattle.x86.specs.State.{State, wordAt, written, forgotten, reached, isLeaf, isOwn, wiredBeside, crowded, holdsWired, freeLeaf, emptied, inLeaf, taken, directoryAt, leafAt, installed}
 use Rattle.x86.proofs.Sweeps.{forgotten-emptying, emptied-emptying}
 use Rattle.x86.proofs.Sets.{any-wired}
-use Rattle.x86_pmap.specs.Kept.{Kept, Points, Mapped, wiredLeaf}
+use Rattle.x86_pmap.specs.Kept.{Kept, Points, wiredLeaf}
 use Rattle.x86_pmap.specs.Views.{viewOf}
 use Rattle.x86_pmap.proofs.Fields.{fresh-mapped, fresh-frame, fresh-dirty, fresh-wired, fresh-writable, zero-wired}
-use Rattle.x86_pmap.proofs.Tables.{table, slotOf, slotIn, entryOf, met, Reaches, Used, page-cases, walk-nothing, walk-reaches, slot-used, table-shows, table-single}
+use Rattle.x86_pmap.proofs.Tables.{table, slotOf, entryOf, Reaches, page-cases, walk-nothing, walk-reaches, slot-used, table-shows, table-single}
 use Rattle.x86_pmap.proofs.Counts.{tally-but-one}
 use Rattle.x86_pmap.proofs.Keeps.{written-there}
 use Rattle.x86_pmap.proofs.Follows.{reaches-on, pagesIn, pages-in, emptying-slots}

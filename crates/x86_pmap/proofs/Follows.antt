@@ -1,26 +1,24 @@
 -- The slots of a board before and after a change that leaves the words above the leaves alike.
 use mathlib.Core.Path.{_≡_, refl, sym, ap, _∙_, subst}
 use mathlib.Core.Logic.{_⊎_, inl, inr, ⊎-elim}
-use mathlib.Core.List.{List}
-use mathlib.Core.Bool.{Bool, true, false, cond, _&&_, _||_}
+use mathlib.Core.Bool.{Bool, true, false, cond, _||_}
 use Prim.Native.Nat.{ℕ, _+_, _-_, _*_, _/_, _%_, _<_, _≤_}
 use native.Mathlib.Omega.{arith}
 use lib.ListN.{getD, length}
-use lib.Dec.{eqb, leb}
+use lib.Dec.{eqb}
 use Rattle.std.specs.declared.option.Option.{Option}
 use Rattle.std.specs.declared.option.Option.the-variants.{Some, None}
-use Rattle.std.proofs.shelf.Tests.{cases-eq, cases-lt, cases-bool, and-parts, and-from, leb-true, le-leb, cond-true, cond-false, both-ways, eq-eqb, ne-eqb, eqb-true, or-left, or-right, or-cases}
+use Rattle.std.proofs.shelf.Tests.{cases-lt, and-parts, and-from, cond-false, both-ways, eq-eqb, eqb-true, or-left, or-right, or-cases}
 use Rattle.std.proofs.shelf.Lists.{getD-past}
-use Rattle.slots.specs.Slots.{Entry, Table, Bit}
-use Rattle.slots.specs.Changes.{Emptied, GoneBit, Filled, Rewritten, Cleaned, cleaned, Unchanged}
-use Rattle.slots.proofs.Shown.{none-some, some-inj}
+use Rattle.slots.specs.Slots.{Entry}
+use Rattle.slots.specs.Changes.{Emptied, GoneBit}
 use Rattle.x86.specs.Words.{present, dirty, frameOf, dirtyIn}
 use Rattle.x86.specs.Walks.{walk}
 use Rattle.x86.specs.State.{State, wordAt, reached, anyDirty}
 use Rattle.x86.proofs.Sweeps.{Emptying, any-dirty}
 use Rattle.x86_pmap.specs.Kept.{Kept, Points}
 use Rattle.x86_pmap.proofs.Fields.{points-same, zero-present, frame-low}
-use Rattle.x86_pmap.proofs.Tables.{table, slotOf, slotIn, entryOf, Reaches, Used, Placed, walk-reaches, page-cases, slot-nothing, slot-reached, slot-past, slot-used, word-placed, dirty-some}
+use Rattle.x86_pmap.proofs.Tables.{table, slotOf, slotIn, entryOf, Reaches, walk-reaches, page-cases, slot-nothing, slot-reached, slot-past, slot-used, word-placed, dirty-some}
 use Rattle.x86_pmap.proofs.Keeps.{Alike, alike-points, alike-zero}
 
 -- two pages that come to the same leaf word are the same

@@ -1,28 +1,27 @@
 -- The calls that name a frame: drop and clear-modified.
 use mathlib.Core.Path.{_≡_, refl, sym, ap, _∙_, subst}
 use mathlib.Core.Logic.{_⊎_, inl, inr, ⊎-elim}
-use mathlib.Core.Bool.{Bool, true, false, cond, _&&_, _||_}
-use Prim.Native.Nat.{ℕ, _+_, _-_, _*_, _/_, _%_, _<_, _≤_}
+use mathlib.Core.Bool.{Bool, true, false, cond, _&&_}
+use Prim.Native.Nat.{ℕ, _+_, _-_, _*_, _%_, _<_, _≤_}
 use native.Mathlib.Omega.{arith}
 use lib.ListN.{getD, length, set}
-use lib.Dec.{eqb, leb}
-use Rattle.std.specs.declared.option.Option.{Option}
+use lib.Dec.{eqb}
 use Rattle.std.specs.declared.option.Option.the-variants.{Some, None}
-use Rattle.std.proofs.shelf.Tests.{and-parts, and-from, and-left, leb-true, le-leb, lt-leb, cond-true, cond-false, both-ways, cases-bool}
+use Rattle.std.proofs.shelf.Tests.{and-parts, and-left, leb-true, le-leb, lt-leb, cond-true, cond-false, both-ways, cases-bool}
 use Rattle.std.proofs.shelf.Lists.{getD-set-same, getD-set-other, length-set}
 use Rattle.std.proofs.shelf.Counted.{length-map-counting}
 use Rattle.pmap.specs.Meaning.{Dropped, Unmarked}
-use Rattle.slots.specs.Slots.{Entry, Table}
-use Rattle.slots.specs.Changes.{Cleaned, cleaned as cleanedSlot, cleanEntry}
+use Rattle.slots.specs.Slots.{Entry}
+use Rattle.slots.specs.Changes.{cleaned as cleanedSlot, cleanEntry}
 use Rattle.slots.proofs.Shown.{emptied-drops, cleaned-unmarks}
-use Rattle.x86.specs.Words.{present, writable, dirty, wired, frameOf, protectionOf, maps, cleaned}
-use Rattle.x86.specs.State.{State, wordAt, isLeaf, mapping, emptied, dropped, unmarkedWord, bitsOff, markOff, unmarked}
-use Rattle.x86.proofs.Sweeps.{Emptying, emptied-emptying, emptied-words, emptied-marks, rewritten-word}
+use Rattle.x86.specs.Words.{present, wired, frameOf, maps, cleaned}
+use Rattle.x86.specs.State.{State, wordAt, isLeaf, mapping, emptied, dropped, unmarkedWord, bitsOff, unmarked}
+use Rattle.x86.proofs.Sweeps.{emptied-emptying, emptied-words, emptied-marks, rewritten-word}
 use Rattle.x86_pmap.specs.Kept.{Kept, Mapped}
 use Rattle.x86_pmap.specs.Views.{viewOf}
 use Rattle.x86_pmap.proofs.Fields.{mapped-present, mapped-cleaned, cleaned-present, cleaned-writable, cleaned-dirty, cleaned-wired, cleaned-frame, zero-present, zero-wired}
-use Rattle.x86_pmap.proofs.Tables.{table, slotOf, slotIn, entryOf, Reaches, Used, slot-used, table-shows, table-single}
-use Rattle.x86_pmap.proofs.Keeps.{Alike, Kin, kin-kept, fewer, kept-marks}
+use Rattle.x86_pmap.proofs.Tables.{table, slotOf, slotIn, entryOf, Reaches, slot-used, table-shows, table-single}
+use Rattle.x86_pmap.proofs.Keeps.{kin-kept, fewer, kept-marks}
 use Rattle.x86_pmap.proofs.Follows.{pagesIn, pages-in, emptying-slots, both-slots}
 
 -- a set of leaf positions is emptied

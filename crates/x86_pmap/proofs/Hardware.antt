@@ -2,19 +2,17 @@
 use mathlib.Core.Path.{_≡_, refl, sym, ap, _∙_}
 use mathlib.Core.Logic.{⊎-elim}
 use mathlib.Core.Bool.{Bool, true, false, cond}
-use Prim.Native.Nat.{ℕ, _+_, _*_, _/_, _%_, _<_}
+use Prim.Native.Nat.{ℕ, _+_, _*_, _%_, _<_}
 use native.Mathlib.Omega.{arith}
 use lib.Dec.{eqb}
-use lib.ListN.{getD}
 use Rattle.std.specs.declared.option.Option.{Option}
 use Rattle.std.specs.declared.option.Option.the-variants.{Some, None}
 use Rattle.std.proofs.shelf.Tests.{cond-true, cond-false}
-use Rattle.pmap.specs.Ranges.{fitsPlace}
-use Rattle.x86.specs.Words.{present, writable, wired, frameOf}
+use Rattle.x86.specs.Words.{writable}
 use Rattle.x86.specs.Walks.{linear}
 use Rattle.x86.specs.State.{State, wordAt, reached, foundIn}
 use Rattle.x86.specs.Lookups.{translation, lookup}
-use Rattle.x86_pmap.specs.Kept.{Kept, Mapped}
+use Rattle.x86_pmap.specs.Kept.{Kept}
 use Rattle.x86_pmap.specs.Views.{viewOf}
 use Rattle.x86_pmap.specs.Seen.{seen, Sees}
 use Rattle.x86_pmap.proofs.Fields.{mapped-present, mapped-frame, zero-present}

@@ -2,18 +2,17 @@
 use mathlib.Core.Path.{_≡_, refl, sym, ap, _∙_, subst}
 use mathlib.Core.Logic.{_⊎_, inl, inr, ⊎-elim}
 use mathlib.Core.List.{List}
-use mathlib.Core.Bool.{Bool, true, false, cond, _&&_}
-use Prim.Native.Nat.{ℕ, _+_, _-_, _*_, _/_, _%_, _<_, _≤_}
+use mathlib.Core.Bool.{Bool, true}
+use Prim.Native.Nat.{ℕ, _+_, _-_, _/_, _<_, _≤_}
 use native.Mathlib.Omega.{arith}
-use lib.ListN.{getD, length, set}
-use lib.Dec.{leb}
-use Rattle.std.proofs.shelf.Tests.{cases-eq, cases-lt, and-parts, and-from, leb-true, lt-leb, and-left, both-ways}
+use lib.ListN.{length}
+use Rattle.std.proofs.shelf.Tests.{cases-eq, and-parts, and-from, leb-true}
 use Rattle.std.proofs.shelf.Lists.{getD-set-same, getD-set-other, length-set}
 use Rattle.pmap.specs.Tally.{tally}
 use Rattle.x86.specs.Words.{wired, touched}
 use Rattle.x86.specs.State.{State, wordAt, written, isLeaf}
-use Rattle.x86_pmap.specs.Kept.{Kept, Points, Mapped, Leads, Owner, wiredLeaf}
-use Rattle.x86_pmap.proofs.Fields.{points-touched, zero-wired}
+use Rattle.x86_pmap.specs.Kept.{Kept, Points, Mapped, Owner, wiredLeaf}
+use Rattle.x86_pmap.proofs.Fields.{points-touched}
 use Rattle.x86_pmap.proofs.Counts.{tally-less}
 
 -- the same word, or the same in use with its accessed bit on

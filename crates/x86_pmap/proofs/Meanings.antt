@@ -1,26 +1,25 @@
 -- From the exact answer and state of each call to its meaning.
 use mathlib.Core.Path.{_≡_, refl, sym, ap, _∙_, subst}
 use mathlib.Core.Logic.{_⊎_, inl, inr, ⊎-elim}
-use mathlib.Core.Bool.{Bool, true, false, cond, _&&_, _||_}
+use mathlib.Core.Bool.{Bool, true, false, _&&_}
 use Prim.Native.Nat.{ℕ, _<_}
-use lib.Dec.{eqb, ltb}
+use lib.Dec.{eqb}
 use Rattle.std.specs.declared.result.Result.{Result}
 use Rattle.std.specs.declared.result.Result.the-variants.{Ok, Err}
-use Rattle.std.specs.declared.option.Option.{Option}
 use Rattle.std.specs.declared.option.Option.the-variants.{Some, None}
 use Rattle.std.proofs.shelf.Tests.{cases-bool, cond-true, cond-false, and-parts, ltb-true, eqb-true, or-cases}
 use Rattle.refusal.specs.declared.pmap.PmapRefusal.{PmapRefusal}
 use Rattle.refusal.specs.declared.pmap.PmapRefusal.the-variants.{Range, WiredFull}
-use Rattle.pmap.specs.Meaning.{View, Mapping, Same, Crowded, AtPlace, AtFrame, Cleared, Enters, Removes, Lowers, Drops, Unwires, Accesses, Finds, Tells, Unmarks, Put, Dropped, Unmarked, Unwired, Accessed, answered, lowered, PutForgetting}
-use Rattle.pmap.specs.Ranges.{fitsPlace, fitsFrame, fitsProtection, fitsEntry}
+use Rattle.pmap.specs.Meaning.{View, Same, AtPlace, AtFrame, Cleared, Enters, Removes, Lowers, Drops, Unwires, Accesses, Unmarks, Put, Dropped, Unmarked, Unwired, Accessed, answered, lowered, PutForgetting}
+use Rattle.pmap.specs.Ranges.{fitsPlace, fitsFrame, fitsEntry}
 use Rattle.pmap.specs.declared.access.Access.{Access}
 use Rattle.x86.specs.Words.{readOnly, unwired, leafWord}
-use Rattle.x86.specs.State.{State, found, modifiedIn, removed, rewrittenAt, accessed, accessAnswer, dropped, unmarked, crowded, installed, started}
+use Rattle.x86.specs.State.{State, removed, rewrittenAt, accessed, accessAnswer, dropped, unmarked, crowded, installed, started}
 use Rattle.x86.specs.Answers.{atPlace, placed, atFrame, framed, enterAnswer, entered}
 use Rattle.x86_pmap.specs.Kept.{Kept}
 use Rattle.x86_pmap.specs.Views.{viewOf}
 use Rattle.x86_pmap.proofs.Tables.{fits-both}
-use Rattle.x86_pmap.proofs.Places.{remove-means, held-found}
+use Rattle.x86_pmap.proofs.Places.{remove-means}
 use Rattle.x86_pmap.proofs.Rewrites.{lower-means, unwire-means, access-means}
 use Rattle.x86_pmap.proofs.Frames.{drop-means, unmark-means}
 use Rattle.x86_pmap.proofs.Wirings.{crowded-means, crowded-not}
@@ -86,20 +85,6 @@ accesses st u K s p write r =
     place-means st (accessed st s p write) u s p (accessAnswer st s p write) r
     (λ w a. (a ≡ answered (viewOf st .held s p) write) × Accessed (viewOf st) w s p write a) K
     (λ x y. let m = access-means s p x y st K write in (m .0, (m .1, m .2)))
-
-pub finds : (st : State) → Kept st → (s p : ℕ) (r : Result (Option Mapping) PmapRefusal) → r ≡ atPlace s p (found st s p) → Finds (viewOf st) s p r
-finds st K s p r answer = place-means st st st s p (found st s p) r (λ w o. o ≡ w .held s p) K (λ x y. (K, sym (held-found s p x y st K))) answer (either (fitsPlace s p)) .0
-  where
-    either : (b : Bool) → st ≡ cond b st st
-    either true = refl
-    either false = refl
-
-pub tells : (st : State) → Kept st → (f : ℕ) (r : Result Bool PmapRefusal) → r ≡ atFrame f (modifiedIn st f) → Tells (viewOf st) f r
-tells st K f r answer = frame-means st st st f (modifiedIn st f) r (λ w b. b ≡ w .modified f) K (λ h. (K, refl)) answer (either (fitsFrame f)) .0
-  where
-    either : (b : Bool) → st ≡ cond b st st
-    either true = refl
-    either false = refl
 
 pub clears : (u : State) → u ≡ started → Cleared (viewOf u) × Kept u
 clears u e = (subst (λ i. Cleared (viewOf i)) (sym e) start-cleared, subst Kept (sym e) start-kept)

@@ -2,7 +2,7 @@
 use mathlib.Core.Path.{_≡_, refl, sym, ap, _∙_, subst, fun-ext}
 use mathlib.Core.Logic.{_⊎_, inl, inr, ⊎-elim}
 use mathlib.Core.Bool.{Bool, true, false, cond, not, _&&_, _||_}
-use Prim.Native.Nat.{ℕ, _+_, _-_, _*_, _/_, _%_, _<_, _≤_}
+use Prim.Native.Nat.{ℕ, _+_, _-_, _*_, _/_, _%_, _<_}
 use native.Mathlib.Omega.{arith}
 use lib.Dec.{eqb}
 use Rattle.std.specs.declared.option.Option.{Option}
@@ -15,16 +15,16 @@ use Rattle.slots.specs.Slots.{Entry, Shows, Single}
 use Rattle.slots.specs.Changes.{Rewritten}
 use Rattle.slots.proofs.Shown.{unchanged-same, rewritten-here, rewritten-was, rewritten-others, rewritten-marks, rewritten-same-marks, added}
 use Rattle.x86.specs.declared.walk.Walk.{Walk}
-use Rattle.x86.specs.Words.{present, writable, dirty, wired, frameOf, protectionOf, touched, dirtied, readOnly, unwired, hitWord, serves}
+use Rattle.x86.specs.Words.{present, writable, dirty, wired, frameOf, protectionOf, touched, readOnly, unwired, hitWord, serves}
 use Rattle.x86.specs.Walks.{linear, walk}
 use Rattle.x86.specs.State.{State, wordAt, written, rewritten, reached, foundIn, rewrittenAt, hit, accessed, accessAnswer}
 use Rattle.x86_pmap.specs.Kept.{Kept, Mapped}
 use Rattle.x86_pmap.specs.Views.{viewOf}
-use Rattle.x86_pmap.proofs.Fields.{mapped-present, mapped-touched, mapped-dirtied, mapped-readOnly, mapped-unwired, touched-writable, touched-dirty, touched-wired, touched-frame, dirtied-writable, dirtied-dirty, dirtied-wired, dirtied-frame, readOnly-writable, readOnly-dirty, readOnly-wired, readOnly-frame, unwired-writable, unwired-dirty, unwired-wired, unwired-frame, zero-present, points-some}
+use Rattle.x86_pmap.proofs.Fields.{mapped-touched, mapped-dirtied, mapped-readOnly, mapped-unwired, touched-writable, touched-dirty, touched-wired, touched-frame, dirtied-writable, dirtied-dirty, dirtied-wired, dirtied-frame, readOnly-writable, readOnly-dirty, readOnly-wired, readOnly-frame, unwired-writable, unwired-dirty, unwired-wired, unwired-frame, zero-present, points-some}
 use Rattle.x86_pmap.proofs.Tables.{table, entryOf, met, Reaches, page-cases, walk-nothing, table-shows, table-single}
 use Rattle.x86_pmap.proofs.Single.{one-kept, one-fewer, one-rewritten, one-unchanged}
 use Rattle.x86_pmap.proofs.Touches.{Touching, touching-more, touch}
-use Rattle.x86_pmap.proofs.Places.{put-nothing, page-inside, page-space, page-page, held-reached, held-nothing}
+use Rattle.x86_pmap.proofs.Places.{page-inside, page-space, page-page, held-reached, held-nothing}
 
 -- the mapping of a leaf word in use
 abbrev pub mappingIn : ℕ → Mapping

@@ -1,8 +1,8 @@
 -- A cleared board keeps the facts, and holds nothing.
 use mathlib.Core.Path.{_≡_, refl, sym, ap, _∙_, subst, fun-ext}
 use mathlib.Core.Logic.{_⊎_, inl, inr, ⊎-elim}
-use mathlib.Core.Bool.{Bool, true, false, cond, _&&_, _||_}
-use Prim.Native.Nat.{ℕ, _+_, _-_, _*_, _/_, _%_, _<_, _≤_}
+use mathlib.Core.Bool.{true, false, _&&_}
+use Prim.Native.Nat.{ℕ, _+_, _-_, _/_, _<_, _≤_}
 use native.Mathlib.Omega.{arith}
 use lib.ListN.{getD, length, replicate}
 use lib.Dec.{eqb, leb, ltb}
@@ -12,10 +12,9 @@ use Rattle.std.proofs.shelf.Lists.{length-replicate, getD-replicate, getD-past}
 use Rattle.std.proofs.shelf.Counted.{length-map-counting}
 use Rattle.pmap.specs.Meaning.{Cleared}
 use Rattle.pmap.specs.Ranges.{fitsPlace}
-use Rattle.pmap.specs.Tally.{tally}
 use Rattle.x86.specs.Words.{pointer, dirty, wired, dirtyIn}
 use Rattle.x86.specs.Walks.{linear}
-use Rattle.x86.specs.State.{State, wordAt, found, isLeaf, anyDirty, startWord, started}
+use Rattle.x86.specs.State.{wordAt, found, isLeaf, anyDirty, startWord, started}
 use Rattle.x86.proofs.Sweeps.{rewritten-word, any-dirty}
 use Rattle.x86.proofs.Sets.{tally-zero}
 use Rattle.x86_pmap.specs.Kept.{Kept, Points, wiredLeaf}

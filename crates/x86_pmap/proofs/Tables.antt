@@ -1,28 +1,28 @@
 -- The words of a kept board as slots: one slot for each linear page, with what the walk finds there.
 use mathlib.Core.Path.{_≡_, refl, sym, ap, _∙_}
 use mathlib.Core.Logic.{_⊎_, inl, inr, ⊎-elim}
-use mathlib.Core.Bool.{Bool, true, false, cond, _&&_, _||_}
+use mathlib.Core.Bool.{true, false, cond}
 use Prim.Native.Nat.{ℕ, _+_, _-_, _*_, _/_, _%_, _<_, _≤_}
 use native.Mathlib.Omega.{arith}
-use lib.ListN.{getD, length}
-use lib.Dec.{eqb, ltb, leb}
+use lib.ListN.{getD}
+use lib.Dec.{eqb, ltb}
 use Rattle.std.specs.declared.option.Option.{Option}
 use Rattle.std.specs.declared.option.Option.the-variants.{Some, None}
 use Rattle.std.proofs.shelf.Tests.{cases-lt, cases-bool, cond-true, cond-false, lt-ltb, le-ltb, ltb-true, le-leb, leb-true, and-from, and-parts, or-left, or-right, or-cases, both-ways, eq-eqb, eqb-true}
 use Rattle.std.proofs.shelf.Bits.{shr-shr}
-use Rattle.pmap.specs.Meaning.{View, Mapping}
+use Rattle.pmap.specs.Meaning.{Mapping}
 use Rattle.pmap.specs.Ranges.{fitsPlace}
 use Rattle.slots.specs.Slots.{Entry, Table, Single, Held, Bit, Shows, mappingOf}
 use Rattle.slots.proofs.Shown.{none-some, some-inj}
 use Rattle.x86.specs.declared.walk.Walk.{Walk}
 use Rattle.x86.specs.Words.{present, dirty, wired, frameOf, protectionOf, dirtyIn, tableOf}
 use Rattle.x86.specs.Walks.{linear, position, walk}
-use Rattle.x86.specs.State.{State, wordAt, reached, found, foundIn, modifiedIn, isLeaf, anyDirty}
+use Rattle.x86.specs.State.{State, wordAt, reached, found, foundIn, isLeaf, anyDirty}
 use Rattle.x86.proofs.Steps.{walk-no-leaf, walk-leaf}
 use Rattle.x86.proofs.Sweeps.{any-dirty}
-use Rattle.x86_pmap.specs.Kept.{Kept, Points, Mapped, Leads, Owner}
+use Rattle.x86_pmap.specs.Kept.{Kept, Points, Mapped, Owner}
 use Rattle.x86_pmap.specs.Views.{viewOf}
-use Rattle.x86_pmap.proofs.Fields.{points-table, zero-table, mapped-present, mapped-some, zero-present, zero-dirty}
+use Rattle.x86_pmap.proofs.Fields.{points-table, zero-table, mapped-present, zero-dirty}
 
 -- what a slot holds: a leaf word for a linear page
 abbrev pub entryOf : ℕ → ℕ → Entry

@@ -1,31 +1,25 @@
 -- Taking a leaf: all in it is forgotten, the directory word that pointed to it goes, and that of the place points to it.
 use mathlib.Core.Path.{_≡_, refl, sym, ap, _∙_, subst}
 use mathlib.Core.Logic.{_⊎_, inl, inr, ⊎-elim}
-use mathlib.Core.Bool.{Bool, true, false, cond, _&&_, _||_}
+use mathlib.Core.Bool.{false, cond}
 use Prim.Native.Nat.{ℕ, _+_, _-_, _*_, _/_, _%_, _<_, _≤_}
 use native.Mathlib.Omega.{arith}
-use lib.ListN.{getD, length, set}
-use lib.Dec.{eqb, leb, ltb}
-use Rattle.std.specs.declared.option.Option.{Option}
+use lib.ListN.{getD, length}
 use Rattle.std.specs.declared.option.Option.the-variants.{Some, None}
-use Rattle.std.proofs.shelf.Tests.{and-parts, and-from, and-left, le-leb, lt-ltb, lt-leb, le-ltb, cond-true, cond-false, both-ways, cases-bool, cases-eq, cases-lt, eq-eqb, ne-eqb, eqb-true}
+use Rattle.std.proofs.shelf.Tests.{cond-true, cond-false, cases-eq, cases-lt, eq-eqb, ne-eqb}
 use Rattle.std.proofs.shelf.Lists.{getD-set-same, getD-set-other, length-set}
 use Rattle.std.proofs.shelf.Counted.{length-map-counting}
-use Rattle.pmap.specs.Meaning.{View, Same, Stays}
-use Rattle.slots.specs.Slots.{Entry}
-use Rattle.slots.proofs.Shown.{unchanged-same, emptied-stays}
-use Rattle.slots.proofs.Shown.{emptied-marks as stays-marks}
+use Rattle.pmap.specs.Meaning.{Same}
+use Rattle.slots.proofs.Shown.{unchanged-same}
 use Rattle.x86.specs.Words.{present, wired, pointer, pointsTo}
-use Rattle.x86.specs.State.{State, wordAt, isDirectory, holdsWired, leafAfter, emptied, inLeaf, unlinkedWord, unlinked, linked}
-use Rattle.x86.proofs.Sweeps.{emptied-emptying, rewritten-word}
-use Rattle.x86.proofs.Sets.{any-wired, unlinked-low, unlinked-here, unlinked-past}
-use Rattle.x86_pmap.specs.Kept.{Kept, Points, Mapped, Leads, Owner, wiredLeaf}
+use Rattle.x86.specs.State.{State, wordAt, unlinkedWord, unlinked, linked}
+use Rattle.x86.proofs.Sweeps.{rewritten-word}
+use Rattle.x86.proofs.Sets.{unlinked-low, unlinked-here, unlinked-past}
+use Rattle.x86_pmap.specs.Kept.{Kept, Points, Mapped, Owner}
 use Rattle.x86_pmap.specs.Views.{viewOf}
-use Rattle.x86_pmap.proofs.Fields.{points-same, points-some, points-at, pointer-points, zero-points-to, zero-present, zero-wired}
-use Rattle.x86_pmap.proofs.Tables.{table, slotOf, slotIn, entryOf, Reaches, Used, page-cases, walk-reaches, slot-nothing, slot-reached, slot-past, slot-used, table-shows, table-single}
+use Rattle.x86_pmap.proofs.Fields.{points-same, points-some, points-at, pointer-points, zero-points-to, zero-present}
+use Rattle.x86_pmap.proofs.Tables.{table, slotOf, slotIn, entryOf, Reaches, page-cases, walk-reaches, slot-nothing, slot-reached, slot-past, table-shows}
 use Rattle.x86_pmap.proofs.Keeps.{fewer}
-use Rattle.x86_pmap.proofs.Follows.{pagesIn, pages-in, emptying-slots}
-use Rattle.x86_pmap.proofs.Frames.{emptied-word, emptied-upper, emptied-kept}
 use Rattle.x86_pmap.proofs.Choices.{after-low, after-high}
 
 -- an empty leaf t, and a directory word j that is zero: the words that point to t are emptied, and j comes to point to it

@@ -1,20 +1,18 @@
 -- The accessed bit goes on in a word above the leaves: nothing of the view changes.
 use mathlib.Core.Path.{_≡_, refl, sym, ap, _∙_}
 use mathlib.Core.Logic.{_⊎_, inl, inr, ⊎-elim}
-use Prim.Native.Nat.{ℕ, _+_, _-_, _*_, _/_, _%_, _<_, _≤_}
+use Prim.Native.Nat.{ℕ, _+_, _-_, _*_, _%_, _<_, _≤_}
 use native.Mathlib.Omega.{arith}
-use lib.ListN.{getD}
 use Rattle.std.proofs.shelf.Tests.{cases-eq}
 use Rattle.std.proofs.shelf.Lists.{getD-set-same, getD-set-other, length-set}
-use Rattle.pmap.specs.Meaning.{View, Same}
+use Rattle.pmap.specs.Meaning.{Same}
 use Rattle.slots.proofs.Shown.{unchanged-same}
 use Rattle.x86.specs.Words.{wired, touched}
 use Rattle.x86.specs.State.{State, wordAt, rewritten}
 use Rattle.x86_pmap.specs.Kept.{Kept}
 use Rattle.x86_pmap.specs.Views.{viewOf}
-use Rattle.x86_pmap.proofs.Fields.{points-some}
-use Rattle.x86_pmap.proofs.Tables.{table, slotOf, slotIn, Reaches, table-shows}
-use Rattle.x86_pmap.proofs.Keeps.{Alike, Kin, kin-kept, fewer}
+use Rattle.x86_pmap.proofs.Tables.{table, slotIn, Reaches, table-shows}
+use Rattle.x86_pmap.proofs.Keeps.{Alike, kin-kept, fewer}
 use Rattle.x86_pmap.proofs.Follows.{reaches-on, both-slots}
 
 -- u is st but for accessed bits above the leaves
@@ -35,9 +33,6 @@ touching-more a b c p q = record {
 }
 
 module _ (st : State) (K : Kept st) (at : ℕ) (low : at < 3072) (some : wordAt st at ≡ 0 → ⊥) where
-  v : State
-  v = rewritten st at touched
-
   pub touch : Touching st (rewritten st at touched)
   touch = record {
     kept = L;
