@@ -4,4 +4,4 @@ pub mod board;
 pub mod cases;
 pub mod lookup;
 pub mod walk;
-pub mod word;
+mod word;
