@@ -30,7 +30,7 @@ start-entry : (s : ℕ) → s < 4 → startWord (512 + s) ≡ pointer (2 + s)
 unfolding startWord
 start-entry s h =
     cond-false (eqb (512 + s) 0) _ _ (ne-eqb (512 + s) 0 (omega arith))
-    ∙ cond-true (leb 512 (512 + s) && ltb (512 + s) 516) (pointer (512 + s - 510)) 0 (and-from _ _ (le-leb 512 (512 + s) (omega arith)) (lt-ltb (512 + s) 516 (omega arith)))
+    ∙ cond-true (leb 512 (512 + s) && ltb (512 + s) 516) (pointer (512 + s - 512 + 2)) 0 (and-from _ _ (le-leb 512 (512 + s) (omega arith)) (lt-ltb (512 + s) 516 (omega arith)))
     ∙ ap pointer (omega arith)
 
 start-blank : (k : ℕ) → 0 < k → (512 ≤ k → k < 516 → ⊥) → startWord k ≡ 0
