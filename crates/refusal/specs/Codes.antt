@@ -8,6 +8,8 @@ use Rattle.refusal.specs.declared.file.FileRefusal.{FileRefusal}
 use Rattle.refusal.specs.declared.file.FileRefusal.the-variants.{Size, Cut, Operation, Field}
 use Rattle.refusal.specs.declared.pmap.PmapRefusal.{PmapRefusal}
 use Rattle.refusal.specs.declared.pmap.PmapRefusal.the-variants.{Range, WiredFull}
+use Rattle.refusal.specs.declared.memory.MemoryRefusal.{MemoryRefusal}
+use Rattle.refusal.specs.declared.memory.MemoryRefusal.the-variants.{CallLimit, Range as CallRange, Overlap, RegionsFull, NoRegion, ReadOnly, Wired, NotWired, WiredFull as PlacesFull, NoFrame, Pmap as FromPmap}
 
 abbrev pub fileCode : FileRefusal → Code
 fileCode Size = record { number = 1; layer = File }
@@ -18,3 +20,16 @@ fileCode Field = record { number = 4; layer = File }
 abbrev pub pmapCode : PmapRefusal → Code
 pmapCode Range = record { number = 15; layer = Pmap }
 pmapCode WiredFull = record { number = 16; layer = Pmap }
+
+abbrev pub memoryCode : MemoryRefusal → Code
+memoryCode CallLimit = record { number = 5; layer = Memory }
+memoryCode CallRange = record { number = 6; layer = Memory }
+memoryCode Overlap = record { number = 7; layer = Memory }
+memoryCode RegionsFull = record { number = 8; layer = Memory }
+memoryCode NoRegion = record { number = 9; layer = Memory }
+memoryCode ReadOnly = record { number = 10; layer = Memory }
+memoryCode Wired = record { number = 11; layer = Memory }
+memoryCode NotWired = record { number = 12; layer = Memory }
+memoryCode PlacesFull = record { number = 13; layer = Memory }
+memoryCode NoFrame = record { number = 14; layer = Memory }
+memoryCode (FromPmap r) = pmapCode r

@@ -2,4 +2,5 @@
 // specs/Codes.antt gives each its number and its layer, once for all; every promise cites it.
 pub mod code;
 pub mod file;
+pub mod memory;
 pub mod pmap;

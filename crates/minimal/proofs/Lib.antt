@@ -1,0 +1,5 @@
+pub mod Search
+pub mod Holding
+pub mod Calls
+pub mod Wired
+pub mod Losses

@@ -1,0 +1,5 @@
+use Rattle.minimal.proofs.Wired.{cleared, cleared-sound}
+use Rattle.minimal.proofs.table.Minimal.new.Needs as need
+
+pub returns : need.returns
+returns c = record { meaning = cleared; kept = cleared-sound }

@@ -1,0 +1,14 @@
+pub mod Finds
+pub mod Decoded
+pub mod Showing
+pub mod Keeping
+pub mod Colors
+pub mod Emptying
+pub mod Dropping
+pub mod Rewriting
+pub mod Unmarking
+pub mod Filling
+pub mod Counting
+pub mod Entering
+pub mod Means
+pub mod Translating

@@ -1,0 +1,3 @@
+pub mod View
+pub mod Kept
+pub mod Hardware
