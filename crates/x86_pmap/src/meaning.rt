@@ -2,13 +2,13 @@
 ghost use mathlib.Core.Path.{_≡_};
 ghost use Rattle.std.specs.Of.Vec.{vec-len};
 ghost use Rattle.std.specs.Results.{Cases};
-ghost use Rattle.pmap.specs.Meaning.{Cleared};
+ghost use Rattle.pmap.specs.Meaning.{Cleared, Accesses};
 ghost use Rattle.x86.specs.Walks.{linear};
 ghost use Rattle.x86.specs.Lookups.{lookup};
 ghost use Rattle.x86.specs.Making.{Returned};
 ghost use Rattle.x86.specs.Reads.{state};
 ghost use Rattle.x86_pmap.specs.Kept.{Kept};
-ghost use Rattle.x86_pmap.specs.Seen.{Sees};
+ghost use Rattle.x86_pmap.specs.Seen.{Sees, SetsBits};
 ghost use Rattle.x86_pmap.specs.Views.{viewOf};
 use pmap::access::Access;
 use pmap::interface::Pmap;
@@ -93,7 +93,12 @@ pub impl Pmap for X86 as X86Pmap {
         self.board.unwire(space, page)
     }
 
-    fn access(&mut self, space: u8, page: u32, write: bool) -> Result<Access, PmapRefusal> {
+    fn access(&mut self, space: u8, page: u32, write: bool) -> Result<Access, PmapRefusal>
+        requires { ⌜ Kept (state (now self .board)) ⌝ }
+        ensures meaning { λ r. ⌜ Accesses (viewOf (state (now (self .entry) .board))) (viewOf (state (now (self .exit) .board))) space page write r ⌝ }
+        ensures kept { λ _. ⌜ Kept (state (now (self .exit) .board)) ⌝ }
+        ensures hardware { λ r. ⌜ SetsBits (state (now (self .entry) .board) .words) (state (now (self .exit) .board) .words) (linear space page) write r ⌝ }
+    {
         self.board.access(space, page, write)
     }
 
