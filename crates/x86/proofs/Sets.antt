@@ -1,14 +1,14 @@
 -- The sets of positions that the loops go over, and the searches in them.
 use mathlib.Core.Path.{_≡_, refl, sym, ap, _∙_}
 use mathlib.Core.List.{List}
-use mathlib.Core.Bool.{Bool, true, false, cond, _&&_, _||_}
+use mathlib.Core.Bool.{Bool, true, false, cond, _&&_}
 use Prim.Native.Nat.{ℕ, zero, suc, _+_, _-_, _*_, _/_, _<_, _≤_}
 use native.Mathlib.Omega.{arith}
 use native.Mathlib.Numerals.{add-one}
 use lib.ListN.{length, getD}
-use lib.Dec.{eqb, ltb, leb}
+use lib.Dec.{ltb, leb}
 use Rattle.std.specs.Orderings.{Decides}
-use Rattle.std.proofs.shelf.Tests.{cond-true, cond-false, and-left, and-from, or-from, or-left, or-right, le-leb, lt-leb, lt-ltb, le-ltb, ne-eqb, eq-eqb, cases-bool, leb-true, and-parts}
+use Rattle.std.proofs.shelf.Tests.{cond-true, cond-false, and-left, and-from, or-from, le-leb, lt-leb, lt-ltb, le-ltb, ne-eqb, eq-eqb, cases-bool, leb-true, and-parts}
 use Rattle.std.proofs.shelf.Ways.{decides-below-or}
 use Rattle.std.proofs.shelf.Lists.{getD-past}
 use mathlib.Core.Logic.{⊎-elim}

@@ -1,11 +1,9 @@
 -- The walk, word by word: where a word points nowhere it ends, else it goes on.
-use mathlib.Core.Path.{_≡_, refl, sym}
+use mathlib.Core.Path.{_≡_}
 use mathlib.Core.List.{List}
 use Prim.Native.Nat.{ℕ}
 use lib.ListN.{getD}
-use Rattle.std.specs.declared.option.Option.{Option}
 use Rattle.std.specs.declared.option.Option.the-variants.{Some, None}
-use Rattle.x86.specs.declared.walk.Walk.{Walk}
 use Rattle.x86.specs.Words.{tableOf}
 use Rattle.x86.specs.Walks.{position, walk}
 

@@ -1,6 +1,6 @@
 -- Loops over the words: each comes to its end at the state that a definition gives by position.
 use mathlib.Core.Path.{_≡_, refl, sym, ap, _∙_}
-use mathlib.Core.Logic.{_≢_, ⊎-elim}
+use mathlib.Core.Logic.{⊎-elim}
 use mathlib.Core.List.{List, map}
 use mathlib.Core.Bool.{Bool, true, false, cond, _&&_, _||_}
 use Prim.Native.Nat.{ℕ, _+_, _<_, _≤_}
@@ -14,7 +14,7 @@ use Rattle.std.proofs.shelf.Ways.{same-from-decides, decides-below-or}
 use Rattle.std.proofs.shelf.Counted.{fill-by-all, getD-map-counting, length-map-counting}
 use Rattle.std.proofs.shelf.Lists.{getD-set-same, getD-set-other, getD-replicate, length-replicate, ext-getD, getD-past}
 use Rattle.x86.specs.Words.{frameOf, dirty, dirtyIn}
-use Rattle.x86.specs.State.{State, wordAt, written, merged, forgotten, anyDirty, emptied, markOff, marksOff, wiped, started}
+use Rattle.x86.specs.State.{State, wordAt, written, forgotten, anyDirty, emptied, markOff, marksOff, wiped, started}
 
 getD-set-here : {X : Type 0} (l : List X) (i k : ℕ) (a d : X) → k ≡ i → i < length l → getD (set l i a) k d ≡ a
 getD-set-here l i k a d e h = rw e (getD-set-same l i a d h)
@@ -279,7 +279,8 @@ module _ (st : State) (gone : ℕ → Bool) (n : length (st .words) ≡ 8192) wh
         (λ (le : 8192 ≤ k). getD-past (map (λ j. cond (gone j) 0 (wordAt st j)) (counting 0 8192)) k 0 (omega (arith, length-map-counting (λ j. cond (gone j) 0 (wordAt st j)) 0 8192)) ∙ sym (both-zero (gone k) (getD-past (st .words) k 0 (omega arith))))
         (cases-lt k 8192);
     marks = λ f h. getD-map-counting (λ g. getD (st .marks) g false || anyDirty (st .words) gone g 8192) 0 256 f f false h (omega arith);
-    next = refl }
+    next = refl;
+  }
     where
       both-zero : (b : Bool) {w : ℕ} → w ≡ 0 → cond b 0 w ≡ 0
       both-zero true e = refl

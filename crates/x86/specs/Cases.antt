@@ -1,7 +1,7 @@
 -- Worked cases of the x86-64 board, by the definitions. Assumes nothing.
 use mathlib.Core.Path.{_≡_}
 use mathlib.Core.Bool.{true, false}
-use Prim.Native.Nat.{ℕ, _+_, _*_}
+use Prim.Native.Nat.{_+_, _*_}
 use Rattle.x86.specs.Words.{leafWord, hitWord}
 use Rattle.x86.specs.Walks.{linear, position}
 use Rattle.x86.specs.State.{directoryAt, leafAt}

@@ -6,7 +6,6 @@ use Rattle.std.specs.Results.{Cases}
 use Rattle.std.specs.declared.alloc.Global.{Global}
 use Rattle.std.specs.declared.vec.Vec.{Vec}
 use Rattle.std.specs.declared.result.Result.{Result}
-use Rattle.refusal.specs.declared.file.FileRefusal.{FileRefusal}
 use Rattle.refusal.specs.declared.file.FileRefusal.the-variants.{Size}
 use Rattle.x86.specs.declared.board.Board.{Board}
 use Rattle.x86.specs.declared.board.making.NotMade.{NotMade}

@@ -5,7 +5,7 @@
 -- leaves. Beside the table stand a modified mark for each of the 256 frames, and the counter: the leaf to look at first
 -- when one has to be taken.
 use mathlib.Core.List.{List, map}
-use mathlib.Core.Bool.{Bool, true, false, cond, not, _&&_, _||_}
+use mathlib.Core.Bool.{Bool, false, cond, not, _&&_, _||_}
 use Prim.Native.Nat.{ℕ, zero, suc, _+_, _-_, _*_, _/_, _%_}
 use lib.ListN.{getD, set, replicate}
 use lib.Dec.{eqb, ltb, leb}
@@ -17,7 +17,7 @@ use Rattle.pmap.specs.declared.access.Access.the-variants.{Hit, Miss}
 use Rattle.pmap.specs.Meaning.{Mapping}
 use Rattle.pmap.specs.Tally.{tally}
 use Rattle.x86.specs.declared.walk.Walk.{Walk}
-use Rattle.x86.specs.Words.{present, dirty, wired, frameOf, protectionOf, pointer, pointsTo, touched, cleaned, readOnly, unwired, hitWord, serves, maps, dirtyIn}
+use Rattle.x86.specs.Words.{present, dirty, wired, frameOf, protectionOf, pointer, pointsTo, touched, cleaned, hitWord, serves, maps, dirtyIn}
 use Rattle.x86.specs.Walks.{linear, walk}
 
 pub record State : Type 0 where
@@ -131,12 +131,12 @@ holdsWired words t = anyWired words (512 * t) 512
 abbrev pub leafAfter : ℕ → ℕ
 leafAfter t = cond (eqb t 15) 6 (t + 1)
 
--- the first of n + 1 leaves from t on that holds no wired mapping, if not the last of them then one before it
+-- the first of n leaves from t on that holds no wired mapping or, where each of them holds one, the leaf after them
 unfoldable pub freeFrom : List ℕ → ℕ → ℕ → ℕ
 freeFrom words t zero = t
 freeFrom words t (suc n) = cond (holdsWired words t) (freeFrom words (leafAfter t) n) t
 
--- the leaf to take: the first of all ten, from the counter on, without a wired mapping
+-- the leaf to take: the first of the ten, from the counter on, without a wired mapping (if nine have one, it is the tenth)
 abbrev pub freeLeaf : State → ℕ
 freeLeaf st = freeFrom (st .words) (st .next) 9
 
@@ -193,7 +193,7 @@ crowded st s p = leb 8 (tally (wiredBeside st (walk (st .words) (linear s p))) 8
 
 -- clear: PML4 entry 0 and the four PDPT entries point down, every other word is zero, no mark is on, the counter is 6
 unfoldable pub startWord : ℕ → ℕ
-startWord k = cond (eqb k 0) (pointer 1) (cond (leb 512 k && ltb k 516) (pointer (k - 510)) 0)
+startWord k = cond (eqb k 0) (pointer 1) (cond (leb 512 k && ltb k 516) (pointer (k - 512 + 2)) 0)
 
 unfoldable pub wiped : State → State
 wiped st = record { words = map startWord (counting 0 8192); marks = st .marks; next = st .next }

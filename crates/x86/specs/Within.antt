@@ -1,5 +1,5 @@
 -- A walk's positions lie in the table. Assumes nothing.
-use Prim.Native.Nat.{ℕ, _<_}
+use Prim.Native.Nat.{_<_}
 use Rattle.std.specs.declared.option.Option.{Option}
 use Rattle.std.specs.declared.option.Option.the-variants.{Some, None}
 use Rattle.x86.specs.declared.walk.Walk.{Walk}

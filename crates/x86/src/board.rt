@@ -15,12 +15,20 @@ pub const WORDS: usize = 8192;
 
 pub const FRAMES: usize = 256;
 
+// Words in a table.
+const TABLE: usize = 512;
+
+// The table of space 0's page directory; those of the other spaces follow.
+const FIRST_DIRECTORY: usize = 2;
+
+const FIRST_LEAF: usize = 6;
+
+const LAST_LEAF: usize = 15;
+
 // The first word of the page directories, and of the leaves.
-const DIRECTORIES: usize = 2 * 512;
+const DIRECTORIES: usize = FIRST_DIRECTORY * TABLE;
 
-const LEAVES: usize = 6 * 512;
-
-const LEAF_COUNT: usize = 10;
+const LEAVES: usize = FIRST_LEAF * TABLE;
 
 #[derive(Drop)]
 pub struct Board {

@@ -2,5 +2,6 @@
 // specs/State.antt says what the board holds after each call: every word, every mark and the counter.
 pub mod board;
 pub mod cases;
+pub mod lookup;
 pub mod walk;
-pub mod word;
+mod word;

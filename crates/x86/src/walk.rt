@@ -40,16 +40,19 @@ fn position(table: usize, linear: u64, cover: u64) -> usize
     512 * table + (linear / cover % 512) as usize
 }
 
-// The table that the word at a position points to; past the tables nothing is present.
+// The word at a position; past the tables there is none, which is as good as zero.
+pub fn word_at(words: &[u64], at: usize) -> u64
+    ensures { λ r. ⌜ r ≡ getD (now (words .entry)) at 0 ⌝ }
+{
+    if at < words.len() { words[at] } else { 0 }
+}
+
+// The table that the word at a position points to.
 fn table_at(words: &[u64], at: usize) -> Option<usize>
     ensures is { λ r. ⌜ r ≡ tableOf (getD (now (words .entry)) at 0) ⌝ }
     ensures bound { λ r. ⌜ Cases r (Unit {0}) (λ t. t < 16) ⌝ }
 {
-    if at < words.len() {
-        table_below(words[at])
-    } else {
-        None
-    }
+    table_below(word_at(words, at))
 }
 
 // Walks from the PML4 down to the leaf word for a linear page.

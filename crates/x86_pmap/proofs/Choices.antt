@@ -1,18 +1,16 @@
 -- Among ten leaves with at most eight wired mappings, the one that is chosen holds none.
-use mathlib.Core.Path.{_≡_, refl, sym, ap, _∙_, subst}
+use mathlib.Core.Path.{_≡_, refl, sym, ap, _∙_}
 use mathlib.Core.Logic.{_⊎_, inl, inr, ⊎-elim}
 use mathlib.Core.List.{List}
-use mathlib.Core.Bool.{Bool, true, false, cond}
-use Prim.Native.Nat.{ℕ, zero, suc, _+_, _-_, _*_, _/_, _%_, _<_, _≤_}
+use mathlib.Core.Bool.{Bool, true, false}
+use Prim.Native.Nat.{ℕ, zero, suc, _+_, _-_, _*_, _%_, _<_, _≤_}
 use native.Mathlib.Omega.{arith}
-use native.Mathlib.Numerals.{add-one}
 use lib.ListN.{getD}
-use lib.Dec.{eqb, leb}
+use lib.Dec.{eqb}
 use Rattle.std.proofs.shelf.Tests.{and-from, le-leb, cases-eq, cases-bool, cond-true, cond-false, eq-eqb, ne-eqb, both-ways}
-use Rattle.pmap.specs.Tally.{tally}
 use Rattle.pmap.proofs.Crowds.{tally-least}
 use Rattle.x86.specs.Words.{wired}
-use Rattle.x86.specs.State.{State, wordAt, holdsWired, leafAfter, freeFrom, freeLeaf}
+use Rattle.x86.specs.State.{State, holdsWired, leafAfter, freeFrom, freeLeaf}
 use Rattle.x86.proofs.Sets.{any-wired, free-here, free-more, free-last}
 use Rattle.x86_pmap.specs.Kept.{Kept, wiredLeaf}
 

@@ -1,11 +1,10 @@
 -- Comparing counts: by position, but for one position, and by an injection. Assumes nothing.
-use mathlib.Core.Path.{_≡_, refl, sym, ap, _∙_}
+use mathlib.Core.Path.{_≡_, refl}
 use mathlib.Core.Logic.{⊎-elim}
 use mathlib.Core.Bool.{Bool, true, false, cond}
 use Prim.Native.Nat.{ℕ, zero, suc, _+_, _<_, _≤_}
 use native.Mathlib.Omega.{arith}
-use lib.Dec.{eqb, ltb}
-use Rattle.std.proofs.shelf.Tests.{cases-eq, cases-bool, cond-true, cond-false, lt-ltb, le-ltb}
+use Rattle.std.proofs.shelf.Tests.{cases-eq}
 use Rattle.pmap.specs.Tally.{tally}
 use Rattle.pmap.proofs.Crowds.{Picked, tally-picks, tally-least}
 
@@ -44,7 +43,7 @@ module _ (p q : ℕ → Bool) where
 
   -- different numbers that pass the first go to different numbers that pass the second
   pub tally-inject : (n m : ℕ) (f : ℕ → ℕ) → ((k : ℕ) → k < n → p k ≡ true → (f k < m) × (q (f k) ≡ true))
-    → ((j k : ℕ) → j < n → k < n → p j ≡ true → p k ≡ true → f j ≡ f k → j ≡ k) → tally p n ≤ tally q m
+      → ((j k : ℕ) → j < n → k < n → p j ≡ true → p k ≡ true → f j ≡ f k → j ≡ k) → tally p n ≤ tally q m
   tally-inject n m f goes apart =
       tally-least q m (tally p n) (λ i. f (P .pick i)) (λ i h. goes (P .pick i) (P .below i h) (P .passes i h))
       (λ i j h l e. P .apart i j h l (apart (P .pick i) (P .pick j) (P .below i h) (P .below j l) (P .passes i h) (P .passes j l) e))

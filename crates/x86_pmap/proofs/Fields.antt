@@ -1,13 +1,11 @@
 -- What a change of one bit leaves of a word's fields, and which words the tables hold.
-use mathlib.Core.Path.{_≡_, refl, sym, ap, _∙_}
-use mathlib.Core.Logic.{_⊎_, inl, inr, ⊎-elim}
-use mathlib.Core.Bool.{Bool, true, false, cond, _&&_}
-use Prim.Native.Nat.{ℕ, _+_, _-_, _*_, _/_, _%_, _<_, _≤_}
+use mathlib.Core.Path.{_≡_, refl, ap, _∙_}
+use mathlib.Core.Bool.{Bool, true, false, cond}
+use Prim.Native.Nat.{ℕ, _+_, _-_, _*_, _/_, _%_, _<_}
 use native.Mathlib.Omega.{arith}
-use lib.Dec.{eqb, ltb, leb}
-use Rattle.std.specs.declared.option.Option.{Option}
+use lib.Dec.{eqb}
 use Rattle.std.specs.declared.option.Option.the-variants.{Some, None}
-use Rattle.std.proofs.shelf.Tests.{eq-eqb, ne-eqb, le-leb, lt-ltb, and-from, and-left, cond-true, cond-false}
+use Rattle.std.proofs.shelf.Tests.{eq-eqb, ne-eqb, le-leb, lt-ltb, and-from, cond-true}
 use Rattle.x86.specs.Words.{present, writable, dirty, wired, frameOf, leafWord, pointer, tableOf, pointsTo, touched, dirtied, cleaned, readOnly, unwired}
 use Rattle.x86_pmap.specs.Kept.{Points, Mapped}
 
@@ -15,10 +13,6 @@ bit : {m n : ℕ} → m ≡ n → eqb m 1 ≡ eqb n 1
 bit e = ap (λ x. eqb x 1) e
 
 module _ (w : ℕ) where
-  pub touched-present : present (touched w) ≡ present w
-  unfolding present touched
-  touched-present = bit (omega arith)
-
   pub touched-writable : writable (touched w) ≡ writable w
   unfolding writable touched
   touched-writable = bit (omega arith)
@@ -38,14 +32,6 @@ module _ (w : ℕ) where
   pub touched-frame : frameOf (touched w) ≡ frameOf w
   unfolding frameOf
   touched-frame = ap (λ x. x % 256) touched-page
-
-  pub touched-table : tableOf (touched w) ≡ tableOf w
-  unfolding tableOf
-  touched-table = rw (touched-present, touched-page)
-
-  pub dirtied-present : present (dirtied w) ≡ present w
-  unfolding present dirtied
-  dirtied-present = bit (omega arith)
 
   pub dirtied-writable : writable (dirtied w) ≡ writable w
   unfolding writable dirtied
@@ -83,10 +69,6 @@ module _ (w : ℕ) where
   unfolding frameOf cleaned
   cleaned-frame = ap (λ x. x % 256) (omega arith)
 
-  pub readOnly-present : present (readOnly w) ≡ present w
-  unfolding present readOnly
-  readOnly-present = bit (omega arith)
-
   pub readOnly-writable : writable (readOnly w) ≡ false
   unfolding writable readOnly
   readOnly-writable = ne-eqb _ 1 (omega arith)
@@ -102,10 +84,6 @@ module _ (w : ℕ) where
   pub readOnly-frame : frameOf (readOnly w) ≡ frameOf w
   unfolding frameOf readOnly
   readOnly-frame = ap (λ x. x % 256) (omega arith)
-
-  pub unwired-present : present (unwired w) ≡ present w
-  unfolding present unwired
-  unwired-present = bit (omega arith)
 
   pub unwired-writable : writable (unwired w) ≡ writable w
   unfolding writable unwired
@@ -136,9 +114,6 @@ module _ (w : ℕ) (m : Mapped w) where
   pub mapped-frame : w / 4096 ≡ frameOf w
   unfolding frameOf
   mapped-frame = omega arith
-
-  pub mapped-some : w ≡ 0 → ⊥
-  mapped-some e = omega arith
 
   pub mapped-touched : Mapped (touched w)
   unfolding touched

@@ -1,26 +1,24 @@
 -- The slots of a board before and after a change that leaves the words above the leaves alike.
 use mathlib.Core.Path.{_≡_, refl, sym, ap, _∙_, subst}
 use mathlib.Core.Logic.{_⊎_, inl, inr, ⊎-elim}
-use mathlib.Core.List.{List}
-use mathlib.Core.Bool.{Bool, true, false, cond, _&&_, _||_}
+use mathlib.Core.Bool.{Bool, true, false, cond, _||_}
 use Prim.Native.Nat.{ℕ, _+_, _-_, _*_, _/_, _%_, _<_, _≤_}
 use native.Mathlib.Omega.{arith}
 use lib.ListN.{getD, length}
-use lib.Dec.{eqb, leb}
+use lib.Dec.{eqb}
 use Rattle.std.specs.declared.option.Option.{Option}
 use Rattle.std.specs.declared.option.Option.the-variants.{Some, None}
-use Rattle.std.proofs.shelf.Tests.{cases-eq, cases-lt, cases-bool, and-parts, and-from, leb-true, le-leb, cond-true, cond-false, both-ways, eq-eqb, ne-eqb, eqb-true, or-left, or-right, or-cases}
+use Rattle.std.proofs.shelf.Tests.{cases-lt, and-parts, and-from, cond-false, both-ways, eq-eqb, eqb-true, or-left, or-right, or-cases}
 use Rattle.std.proofs.shelf.Lists.{getD-past}
-use Rattle.slots.specs.Slots.{Entry, Table, Bit}
-use Rattle.slots.specs.Changes.{Emptied, GoneBit, Filled, Rewritten, Cleaned, cleaned, Unchanged}
-use Rattle.slots.proofs.Shown.{none-some, some-inj}
+use Rattle.slots.specs.Slots.{Entry}
+use Rattle.slots.specs.Changes.{Emptied, GoneBit}
 use Rattle.x86.specs.Words.{present, dirty, frameOf, dirtyIn}
 use Rattle.x86.specs.Walks.{walk}
 use Rattle.x86.specs.State.{State, wordAt, reached, anyDirty}
 use Rattle.x86.proofs.Sweeps.{Emptying, any-dirty}
 use Rattle.x86_pmap.specs.Kept.{Kept, Points}
 use Rattle.x86_pmap.proofs.Fields.{points-same, zero-present, frame-low}
-use Rattle.x86_pmap.proofs.Tables.{table, slotOf, slotIn, entryOf, Reaches, Used, Placed, walk-reaches, page-cases, slot-nothing, slot-reached, slot-past, slot-used, word-placed, dirty-some}
+use Rattle.x86_pmap.proofs.Tables.{table, slotOf, slotIn, entryOf, Reaches, walk-reaches, page-cases, slot-nothing, slot-reached, slot-past, slot-used, word-placed, dirty-some}
 use Rattle.x86_pmap.proofs.Keeps.{Alike, alike-points, alike-zero}
 
 -- two pages that come to the same leaf word are the same
@@ -44,7 +42,7 @@ module _ (st v : State) (K : Kept st) (L : Kept v) (upper : (k : ℕ) → k < 30
 
   -- a slot before and after: nothing in both, or the leaf word at the same position
   pub both-slots : (P : ℕ → Option Entry → Option Entry → Type 0) → ((n : ℕ) → P n None None)
-    → ((n t : ℕ) → Reaches st n t → P n (slotIn n (wordAt st (512 * t + n % 512))) (slotIn n (wordAt v (512 * t + n % 512)))) → (n : ℕ) → P n (slotOf st n) (slotOf v n)
+      → ((n t : ℕ) → Reaches st n t → P n (slotIn n (wordAt st (512 * t + n % 512))) (slotIn n (wordAt v (512 * t + n % 512)))) → (n : ℕ) → P n (slotOf st n) (slotOf v n)
   both-slots P nothing reach n = ⊎-elim
       (λ (h : n < 1048576). ⊎-elim
       (λ z. rw (slot-nothing st K n h z, slot-nothing v L n h (alike-zero _ _ (upper (1024 + n / 512) (omega arith)) z)) (nothing n))
@@ -66,7 +64,7 @@ either-none false = refl
 
 -- the mark of every frame after positions are emptied
 module _ (st v : State) (gone : ℕ → Bool) (size : length (st .marks) ≡ 256) (size′ : length (v .marks) ≡ 256)
-  (marks : (f : ℕ) → f < 256 → getD (v .marks) f false ≡ (getD (st .marks) f false || anyDirty (st .words) gone f 8192)) where
+    (marks : (f : ℕ) → f < 256 → getD (v .marks) f false ≡ (getD (st .marks) f false || anyDirty (st .words) gone f 8192)) where
   mark-back : (f : ℕ) → getD (v .marks) f false ≡ true → f < 256
   mark-back f e = ⊎-elim (λ (l : f < 256). l) (λ (l : 256 ≤ f). absurd (both-ways (getD (v .marks) f false) (getD-past (v .marks) f false (omega arith)) e)) (cases-lt f 256)
 
@@ -101,7 +99,7 @@ module _ (st v : State) (gone : ℕ → Bool) (size : length (st .marks) ≡ 256
 
 -- positions of leaves are emptied
 pub emptying-slots : (st v : State) (K : Kept st) (L : Kept v) → ((k : ℕ) → k < 3072 → Alike (wordAt st k) (wordAt v k)) → (gone : ℕ → Bool) → ((k : ℕ) → gone k ≡ true → 3072 ≤ k) → Emptying st v gone
-  → Emptied (table st) (table v) (pagesIn st gone)
+    → Emptied (table st) (table v) (pagesIn st gone)
 emptying-slots st v K L upper gone leaf E =
     emptied-from st v gone (K .marked) (L .marked) (E .marks) K leaf
     (both-slots st v K L upper (λ n a b. b ≡ cond (pagesIn st gone n) None a) (λ n. either-none (pagesIn st gone n)) reach)

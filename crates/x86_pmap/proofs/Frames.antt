@@ -1,28 +1,27 @@
 -- The calls that name a frame: drop and clear-modified.
 use mathlib.Core.Path.{_≡_, refl, sym, ap, _∙_, subst}
 use mathlib.Core.Logic.{_⊎_, inl, inr, ⊎-elim}
-use mathlib.Core.Bool.{Bool, true, false, cond, _&&_, _||_}
-use Prim.Native.Nat.{ℕ, _+_, _-_, _*_, _/_, _%_, _<_, _≤_}
+use mathlib.Core.Bool.{Bool, true, false, cond, _&&_}
+use Prim.Native.Nat.{ℕ, _+_, _-_, _*_, _%_, _<_, _≤_}
 use native.Mathlib.Omega.{arith}
 use lib.ListN.{getD, length, set}
-use lib.Dec.{eqb, leb}
-use Rattle.std.specs.declared.option.Option.{Option}
+use lib.Dec.{eqb}
 use Rattle.std.specs.declared.option.Option.the-variants.{Some, None}
-use Rattle.std.proofs.shelf.Tests.{and-parts, and-from, and-left, leb-true, le-leb, lt-leb, cond-true, cond-false, both-ways, cases-bool}
+use Rattle.std.proofs.shelf.Tests.{and-parts, and-left, leb-true, le-leb, lt-leb, cond-true, cond-false, both-ways, cases-bool}
 use Rattle.std.proofs.shelf.Lists.{getD-set-same, getD-set-other, length-set}
 use Rattle.std.proofs.shelf.Counted.{length-map-counting}
 use Rattle.pmap.specs.Meaning.{Dropped, Unmarked}
-use Rattle.slots.specs.Slots.{Entry, Table}
-use Rattle.slots.specs.Changes.{Cleaned, cleaned as cleanedSlot, cleanEntry}
+use Rattle.slots.specs.Slots.{Entry}
+use Rattle.slots.specs.Changes.{cleaned as cleanedSlot, cleanEntry}
 use Rattle.slots.proofs.Shown.{emptied-drops, cleaned-unmarks}
-use Rattle.x86.specs.Words.{present, writable, dirty, wired, frameOf, protectionOf, maps, cleaned}
-use Rattle.x86.specs.State.{State, wordAt, isLeaf, mapping, emptied, dropped, unmarkedWord, bitsOff, markOff, unmarked}
-use Rattle.x86.proofs.Sweeps.{Emptying, emptied-emptying, emptied-words, emptied-marks, rewritten-word}
+use Rattle.x86.specs.Words.{present, wired, frameOf, maps, cleaned}
+use Rattle.x86.specs.State.{State, wordAt, isLeaf, mapping, emptied, dropped, unmarkedWord, bitsOff, unmarked}
+use Rattle.x86.proofs.Sweeps.{emptied-emptying, emptied-words, emptied-marks, rewritten-word}
 use Rattle.x86_pmap.specs.Kept.{Kept, Mapped}
 use Rattle.x86_pmap.specs.Views.{viewOf}
 use Rattle.x86_pmap.proofs.Fields.{mapped-present, mapped-cleaned, cleaned-present, cleaned-writable, cleaned-dirty, cleaned-wired, cleaned-frame, zero-present, zero-wired}
-use Rattle.x86_pmap.proofs.Tables.{table, slotOf, slotIn, entryOf, Reaches, Used, slot-used, table-shows, table-single}
-use Rattle.x86_pmap.proofs.Keeps.{Alike, Kin, kin-kept, fewer, kept-marks}
+use Rattle.x86_pmap.proofs.Tables.{table, slotOf, slotIn, entryOf, Reaches, slot-used, table-shows, table-single}
+use Rattle.x86_pmap.proofs.Keeps.{kin-kept, fewer, kept-marks}
 use Rattle.x86_pmap.proofs.Follows.{pagesIn, pages-in, emptying-slots, both-slots}
 
 -- a set of leaf positions is emptied
@@ -52,7 +51,8 @@ module _ (st : State) (K : Kept st) (gone : ℕ → Bool) (leaf : (k : ℕ) → 
         lower = λ k p h. ⊎-elim
             (λ (g : gone k ≡ true). inl (emptied-word k ∙ cond-true (gone k) 0 (wordAt st k) g))
             (λ (g : gone k ≡ false). rw (emptied-word k ∙ cond-false (gone k) 0 (wordAt st k) g) (K .leaves k p h))
-            (cases-bool (gone k)) })
+            (cases-bool (gone k));
+      })
       (fewer st (emptied st gone) K (λ k p h e. emptied-wired k e))
 
 -- a leaf word in use maps its frame
@@ -68,8 +68,11 @@ module _ (st : State) (K : Kept st) (f : ℕ) where
 
   -- drop
   pub drop-means : Kept (dropped st f) × Dropped (viewOf st) (viewOf (dropped st f)) f
-  drop-means = (L, emptied-drops (table st) (table u) (viewOf st) (viewOf u) (table-shows st K) (table-shows u L) (table-single st K) (pagesIn st gone)
-      (emptying-slots st u K L (λ k h. inl (emptied-upper st K gone mapping-leaf k h)) gone mapping-leaf (emptied-emptying st gone (K .size))) f exact)
+  drop-means = (
+    L,
+    emptied-drops (table st) (table u) (viewOf st) (viewOf u) (table-shows st K) (table-shows u L) (table-single st K) (pagesIn st gone)
+        (emptying-slots st u K L (λ k h. inl (emptied-upper st K gone mapping-leaf k h)) gone mapping-leaf (emptied-emptying st gone (K .size))) f exact,
+  )
     where
       gone : ℕ → Bool
       gone = mapping st f
@@ -131,7 +134,8 @@ module _ (st : State) (K : Kept st) (f : ℕ) where
         lower = λ k p h. ⊎-elim
             (λ z. inl (off-zero k h z))
             (λ m. inr (subst Mapped (sym (off-word k h)) (off-mapped (wordAt st k) (mapping st f k) (m .0)), m .1))
-            (K .leaves k p h) })
+            (K .leaves k p h);
+      })
       (fewer st (bitsOff st f) K (λ k p h e. sym (ap wired (off-word k h) ∙ off-wired (wordAt st k) (mapping st f k)) ∙ e))
 
   clean-entry : (n w : ℕ) → entryOf n (cleaned w) ≡ cleanEntry (entryOf n w)
@@ -146,11 +150,15 @@ module _ (st : State) (K : Kept st) (f : ℕ) where
       ∙ sym (ap (cleanedSlot f) (cond-true _ (Some (entryOf n w)) None on))
 
   pub unmark-means : f < 256 → Kept (unmarked st f) × Unmarked (viewOf st) (viewOf (unmarked st f)) f
-  unmark-means low = (L, cleaned-unmarks (table st) (table u) (viewOf st) (viewOf u) (table-shows st K) (table-shows u L) f
-      (record {
-        slots = both-slots st u K L (λ k h. inl (off-upper k h)) (λ n a b. b ≡ cleanedSlot f a) (λ n. refl) reach;
-        off = getD-set-same (bitsOff st f .marks) f false false (omega (arith, ap length off-marks, K .marked));
-        others = λ g far. getD-set-other (bitsOff st f .marks) f g false false far ∙ ap (λ ms. getD ms g false) off-marks }))
+  unmark-means low = (
+    L,
+    cleaned-unmarks (table st) (table u) (viewOf st) (viewOf u) (table-shows st K) (table-shows u L) f
+        (record {
+          slots = both-slots st u K L (λ k h. inl (off-upper k h)) (λ n a b. b ≡ cleanedSlot f a) (λ n. refl) reach;
+          off = getD-set-same (bitsOff st f .marks) f false false (omega (arith, ap length off-marks, K .marked));
+          others = λ g far. getD-set-other (bitsOff st f .marks) f g false false far ∙ ap (λ ms. getD ms g false) off-marks;
+        }),
+  )
     where
       u : State
       u = unmarked st f

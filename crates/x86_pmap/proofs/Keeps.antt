@@ -2,18 +2,17 @@
 use mathlib.Core.Path.{_≡_, refl, sym, ap, _∙_, subst}
 use mathlib.Core.Logic.{_⊎_, inl, inr, ⊎-elim}
 use mathlib.Core.List.{List}
-use mathlib.Core.Bool.{Bool, true, false, cond, _&&_}
-use Prim.Native.Nat.{ℕ, _+_, _-_, _*_, _/_, _%_, _<_, _≤_}
+use mathlib.Core.Bool.{Bool, true}
+use Prim.Native.Nat.{ℕ, _+_, _-_, _/_, _<_, _≤_}
 use native.Mathlib.Omega.{arith}
-use lib.ListN.{getD, length, set}
-use lib.Dec.{leb}
-use Rattle.std.proofs.shelf.Tests.{cases-eq, cases-lt, and-parts, and-from, leb-true, lt-leb, and-left, both-ways}
+use lib.ListN.{length}
+use Rattle.std.proofs.shelf.Tests.{cases-eq, and-parts, and-from, leb-true}
 use Rattle.std.proofs.shelf.Lists.{getD-set-same, getD-set-other, length-set}
 use Rattle.pmap.specs.Tally.{tally}
 use Rattle.x86.specs.Words.{wired, touched}
 use Rattle.x86.specs.State.{State, wordAt, written, isLeaf}
-use Rattle.x86_pmap.specs.Kept.{Kept, Points, Mapped, Leads, Owner, wiredLeaf}
-use Rattle.x86_pmap.proofs.Fields.{points-touched, zero-wired}
+use Rattle.x86_pmap.specs.Kept.{Kept, Points, Mapped, Owner, wiredLeaf}
+use Rattle.x86_pmap.proofs.Fields.{points-touched}
 use Rattle.x86_pmap.proofs.Counts.{tally-less}
 
 -- the same word, or the same in use with its accessed bit on
@@ -57,7 +56,8 @@ kin-kept st u K R few = record {
       (K .directories k p h);
   single = λ j k t a b c d p q. K .single j k t a b c d (alike-back _ _ (R .upper j b) t p) (alike-back _ _ (R .upper k d) t q);
   leaves = λ k p h. ⊎-elim (λ z. inl z) (λ m. inr (m .0, owned (m .1))) (R .lower k p h);
-  few = few }
+  few = few;
+}
   where
     owned : {t : ℕ} → Owner st t → Owner u t
     owned {t} o = record { at = o .at; low = o .low; high = o .high; points = alike-points _ _ (R .upper (o .at) (o .high)) t (o .points) }
@@ -66,7 +66,7 @@ kin-kept st u K R few = record {
 pub fewer : (st u : State) → Kept st → ((k : ℕ) → 3072 ≤ k → k < 8192 → wired (wordAt u k) ≡ true → wired (wordAt st k) ≡ true) → tally (wiredLeaf u) 8192 ≤ 8
 fewer st u K h =
     let less = tally-less (wiredLeaf u) (wiredLeaf st) 8192 (λ k l e.
-      let parts = and-parts (isLeaf k) _ e in and-from _ _ (parts .0) (h k (leb-true 3072 k (parts .0)) l (parts .1))) in
+    let parts = and-parts (isLeaf k) _ e in and-from _ _ (parts .0) (h k (leb-true 3072 k (parts .0)) l (parts .1))) in
     let few = K .few in
     omega arith
 
@@ -83,7 +83,8 @@ kept-marks st ms n K = record {
   directories = K .directories;
   single = K .single;
   leaves = λ k p h. ⊎-elim (λ z. inl z) (λ m. inr (m .0, record { at = m .1 .at; low = m .1 .low; high = m .1 .high; points = m .1 .points })) (K .leaves k p h);
-  few = K .few }
+  few = K .few;
+}
 
 -- one leaf word is written
 module _ (st : State) (K : Kept st) (k w : ℕ) (low : 3072 ≤ k) (high : k < 8192) where
@@ -106,4 +107,5 @@ module _ (st : State) (K : Kept st) (k w : ℕ) (low : 3072 ≤ k) (high : k < 8
         (λ z. inl (written-there j e ∙ z))
         (λ x. inr (subst Mapped (sym (written-there j e)) (x .0), x .1))
         (K .leaves j p h))
-        (cases-eq j k) }
+        (cases-eq j k);
+  }

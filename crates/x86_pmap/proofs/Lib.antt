@@ -12,3 +12,6 @@ pub mod Starts
 pub mod Wirings
 pub mod Choices
 pub mod Takes
+pub mod Enters
+pub mod Meanings
+pub mod Hardware

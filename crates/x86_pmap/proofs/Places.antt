@@ -1,31 +1,28 @@
 -- The calls that name a place, find and remove among them: the facts are kept, and the view changes as a pmap's does.
 use mathlib.Core.Path.{_≡_, refl, sym, ap, _∙_, subst}
-use mathlib.Core.Logic.{_⊎_, inl, inr, ⊎-elim}
-use mathlib.Core.Bool.{Bool, true, false, cond, _&&_, _||_}
-use Prim.Native.Nat.{ℕ, _+_, _-_, _*_, _/_, _%_, _<_, _≤_}
+use mathlib.Core.Logic.{_⊎_, inl, ⊎-elim}
+use mathlib.Core.Bool.{Bool, true, false, _&&_}
+use Prim.Native.Nat.{ℕ, _+_, _-_, _*_, _/_, _%_, _<_}
 use native.Mathlib.Omega.{arith}
-use lib.ListN.{getD, set}
-use lib.Dec.{eqb, ltb}
+use lib.Dec.{eqb}
 use Rattle.std.specs.declared.option.Option.{Option}
 use Rattle.std.specs.declared.option.Option.the-variants.{Some, None}
-use Rattle.std.proofs.shelf.Tests.{and-parts, and-from, lt-ltb, cond-true, cond-false, both-ways, eq-eqb, eqb-true, cases-bool}
+use Rattle.std.proofs.shelf.Tests.{and-parts, and-from, cond-true, both-ways, eq-eqb, eqb-true}
 use Rattle.std.proofs.shelf.Lists.{length-set}
-use Rattle.pmap.specs.Meaning.{View, Mapping, Same, Put, PutForgetting, Elsewhere}
-use Rattle.pmap.specs.Ranges.{fitsPlace}
-use Rattle.slots.specs.Slots.{Entry, mappingOf}
-use Rattle.slots.specs.Changes.{Rewritten}
-use Rattle.slots.proofs.Shown.{unchanged-same, emptied-removes, rewritten-here, rewritten-was, rewritten-others, rewritten-marks, added}
-use Rattle.x86.specs.Words.{present, dirty, wired, frameOf, protectionOf}
-use Rattle.x86.specs.Walks.{linear, walk}
-use Rattle.x86.specs.State.{State, wordAt, written, rewritten, merged, forgotten, reached, found, foundIn, removed, rewrittenAt}
+use Rattle.pmap.specs.Meaning.{View, Mapping, Put}
+use Rattle.slots.specs.Slots.{Entry}
+use Rattle.slots.proofs.Shown.{emptied-removes}
+use Rattle.x86.specs.Words.{wired}
+use Rattle.x86.specs.Walks.{linear}
+use Rattle.x86.specs.State.{State, wordAt, merged, forgotten, reached, found, foundIn, removed}
 use Rattle.x86.proofs.Sweeps.{forgotten-emptying}
-use Rattle.x86_pmap.specs.Kept.{Kept, Mapped}
+use Rattle.x86_pmap.specs.Kept.{Kept}
 use Rattle.x86_pmap.specs.Views.{viewOf}
-use Rattle.x86_pmap.proofs.Fields.{mapped-present, zero-present, zero-wired}
-use Rattle.x86_pmap.proofs.Tables.{table, slotOf, slotIn, entryOf, Reaches, Used, page-cases, walk-nothing, slot-used, table-shows, table-single, found-reached, found-nothing, fits-true}
+use Rattle.x86_pmap.proofs.Fields.{zero-wired}
+use Rattle.x86_pmap.proofs.Tables.{table, slotOf, Reaches, page-cases, walk-nothing, slot-used, table-shows, table-single, found-reached, found-nothing, fits-true}
 use Rattle.x86_pmap.proofs.Keeps.{Alike, kept-marks, written-there}
 use Rattle.x86_pmap.proofs.Follows.{reach-inj, reach-same, pagesIn, pages-in, emptying-slots}
-use Rattle.x86_pmap.proofs.Single.{one-kept, one-fewer, one-rewritten, one-unchanged}
+use Rattle.x86_pmap.proofs.Single.{one-kept, one-fewer}
 
 pub bool-same : (x y : Bool) → (x ≡ true → y ≡ true) → (y ≡ true → x ≡ true) → x ≡ y
 bool-same true y f g = sym (f refl)
@@ -72,7 +69,7 @@ module _ (s p : ℕ) (x : s < 4) (y : p < 262144) where
       forgotten-kept = one-kept (merged st (wordAt st (512 * t + linear s p % 512))) private-merged (linear s p) t 0 merged-reaches (inl refl)
           (one-fewer (merged st (wordAt st (512 * t + linear s p % 512))) private-merged (linear s p) t 0 merged-reaches (λ e. absurd (both-ways (wired 0) zero-wired e)))
 
-      forgotten-upper : (k : ℕ) → k < 3072 → Alike (wordAt st k) (wordAt (forgotten st (512 * t + linear s p % 512)) k)
+      pub forgotten-upper : (k : ℕ) → k < 3072 → Alike (wordAt st k) (wordAt (forgotten st (512 * t + linear s p % 512)) k)
       forgotten-upper k h = inl (written-there (merged st (wordAt st (512 * t + linear s p % 512))) private-merged (512 * t + linear s p % 512) 0 (omega (arith, r .low)) (omega (arith, r .high)) k (omega (arith, r .low)))
 
       pub forgotten-puts : Put (viewOf st) (viewOf (forgotten st (512 * t + linear s p % 512))) s p None

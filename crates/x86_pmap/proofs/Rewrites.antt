@@ -2,7 +2,7 @@
 use mathlib.Core.Path.{_≡_, refl, sym, ap, _∙_, subst, fun-ext}
 use mathlib.Core.Logic.{_⊎_, inl, inr, ⊎-elim}
 use mathlib.Core.Bool.{Bool, true, false, cond, not, _&&_, _||_}
-use Prim.Native.Nat.{ℕ, _+_, _-_, _*_, _/_, _%_, _<_, _≤_}
+use Prim.Native.Nat.{ℕ, _+_, _-_, _*_, _/_, _%_, _<_}
 use native.Mathlib.Omega.{arith}
 use lib.Dec.{eqb}
 use Rattle.std.specs.declared.option.Option.{Option}
@@ -15,16 +15,16 @@ use Rattle.slots.specs.Slots.{Entry, Shows, Single}
 use Rattle.slots.specs.Changes.{Rewritten}
 use Rattle.slots.proofs.Shown.{unchanged-same, rewritten-here, rewritten-was, rewritten-others, rewritten-marks, rewritten-same-marks, added}
 use Rattle.x86.specs.declared.walk.Walk.{Walk}
-use Rattle.x86.specs.Words.{present, writable, dirty, wired, frameOf, protectionOf, touched, dirtied, readOnly, unwired, hitWord, serves}
+use Rattle.x86.specs.Words.{present, writable, dirty, wired, frameOf, protectionOf, touched, readOnly, unwired, hitWord, serves}
 use Rattle.x86.specs.Walks.{linear, walk}
 use Rattle.x86.specs.State.{State, wordAt, written, rewritten, reached, foundIn, rewrittenAt, hit, accessed, accessAnswer}
 use Rattle.x86_pmap.specs.Kept.{Kept, Mapped}
 use Rattle.x86_pmap.specs.Views.{viewOf}
-use Rattle.x86_pmap.proofs.Fields.{mapped-present, mapped-touched, mapped-dirtied, mapped-readOnly, mapped-unwired, touched-writable, touched-dirty, touched-wired, touched-frame, dirtied-writable, dirtied-dirty, dirtied-wired, dirtied-frame, readOnly-writable, readOnly-dirty, readOnly-wired, readOnly-frame, unwired-writable, unwired-dirty, unwired-wired, unwired-frame, zero-present, points-some}
+use Rattle.x86_pmap.proofs.Fields.{mapped-touched, mapped-dirtied, mapped-readOnly, mapped-unwired, touched-writable, touched-dirty, touched-wired, touched-frame, dirtied-writable, dirtied-dirty, dirtied-wired, dirtied-frame, readOnly-writable, readOnly-dirty, readOnly-wired, readOnly-frame, unwired-writable, unwired-dirty, unwired-wired, unwired-frame, zero-present, points-some}
 use Rattle.x86_pmap.proofs.Tables.{table, entryOf, met, Reaches, page-cases, walk-nothing, table-shows, table-single}
 use Rattle.x86_pmap.proofs.Single.{one-kept, one-fewer, one-rewritten, one-unchanged}
 use Rattle.x86_pmap.proofs.Touches.{Touching, touching-more, touch}
-use Rattle.x86_pmap.proofs.Places.{put-nothing, page-inside, page-space, page-page, held-reached, held-nothing}
+use Rattle.x86_pmap.proofs.Places.{page-inside, page-space, page-page, held-reached, held-nothing}
 
 -- the mapping of a leaf word in use
 abbrev pub mappingIn : ℕ → Mapping
@@ -53,14 +53,18 @@ module _ (s p : ℕ) (x : s < 4) (y : p < 262144) where
 
   module _ (st : State) (K : Kept st) where
     pub leaf-reworded : (t z : ℕ) (r : Reaches st (linear s p) t) → Mapped (wordAt st (512 * t + linear s p % 512)) → Mapped z → frameOf z ≡ frameOf (wordAt st (512 * t + linear s p % 512))
-      → (dirty (wordAt st (512 * t + linear s p % 512)) ≡ true → dirty z ≡ true) → (wired z ≡ true → wired (wordAt st (512 * t + linear s p % 512)) ≡ true)
-      → Kept (written st (512 * t + linear s p % 512) z) × Reword (viewOf st) (viewOf (written st (512 * t + linear s p % 512) z)) s p (wordAt st (512 * t + linear s p % 512)) z
-    leaf-reworded t z r m m′ frame stays wires = (L, record {
-      was = at-place (λ a b. viewOf st .held a b ≡ Some (mappingIn w)) (rewritten-was (table st) (table u) (viewOf st) (viewOf u) S T one n d e R);
-      here = at-place (λ a b. viewOf u .held a b ≡ Some (mappingIn z)) (rewritten-here (table st) (table u) (viewOf st) (viewOf u) S T one n d e R);
-      others = at-place (λ a b. (i j : ℕ) → Elsewhere a b i j → viewOf u .held i j ≡ viewOf st .held i j) (rewritten-others (table st) (table u) (viewOf st) (viewOf u) S T one n d e R);
-      marks = rewritten-marks (table st) (table u) (viewOf st) (viewOf u) S T one n d e R;
-      same = rewritten-same-marks (table st) (table u) (viewOf st) (viewOf u) S T one n d e R })
+        → (dirty (wordAt st (512 * t + linear s p % 512)) ≡ true → dirty z ≡ true) → (wired z ≡ true → wired (wordAt st (512 * t + linear s p % 512)) ≡ true)
+        → Kept (written st (512 * t + linear s p % 512) z) × Reword (viewOf st) (viewOf (written st (512 * t + linear s p % 512) z)) s p (wordAt st (512 * t + linear s p % 512)) z
+    leaf-reworded t z r m m′ frame stays wires = (
+      L,
+      record {
+        was = at-place (λ a b. viewOf st .held a b ≡ Some (mappingIn w)) (rewritten-was (table st) (table u) (viewOf st) (viewOf u) S T one n d e R);
+        here = at-place (λ a b. viewOf u .held a b ≡ Some (mappingIn z)) (rewritten-here (table st) (table u) (viewOf st) (viewOf u) S T one n d e R);
+        others = at-place (λ a b. (i j : ℕ) → Elsewhere a b i j → viewOf u .held i j ≡ viewOf st .held i j) (rewritten-others (table st) (table u) (viewOf st) (viewOf u) S T one n d e R);
+        marks = rewritten-marks (table st) (table u) (viewOf st) (viewOf u) S T one n d e R;
+        same = rewritten-same-marks (table st) (table u) (viewOf st) (viewOf u) S T one n d e R;
+      },
+    )
       where
         n : ℕ
         n = linear s p
@@ -94,7 +98,7 @@ module _ (s p : ℕ) (x : s < 4) (y : p < 262144) where
 
     -- a change that leaves frame and dirty bit
     module _ (change : ℕ → ℕ) (none : change 0 ≡ 0) (mapped : (w : ℕ) → Mapped w → Mapped (change w)) (frame : (w : ℕ) → frameOf (change w) ≡ frameOf w)
-      (dirt : (w : ℕ) → dirty (change w) ≡ dirty w) (wires : (w : ℕ) → wired (change w) ≡ true → wired w ≡ true) where
+        (dirt : (w : ℕ) → dirty (change w) ≡ dirty w) (wires : (w : ℕ) → wired (change w) ≡ true → wired w ≡ true) where
       changed-there : (t : ℕ) → Reaches st (linear s p) t → Changed st change s p (rewritten st (512 * t + linear s p % 512) change)
       changed-there t r = ⊎-elim empty (λ m. inside (m .0)) (K .leaves k (omega (arith, r .low)) (omega (arith, r .high)))
         where
@@ -137,11 +141,13 @@ module _ (s p : ℕ) (x : s < 4) (y : p < 262144) (st : State) (K : Kept st) whe
   -- lower
   pub lower-means : Kept (rewrittenAt readOnly st s p) × Put (viewOf st) (viewOf (rewrittenAt readOnly st s p)) s p (lowered (viewOf st .held s p))
   lower-means =
-      let c = changed s p x y st K readOnly zero-readOnly mapped-readOnly readOnly-frame readOnly-dirty (λ w e. sym (readOnly-wired w) ∙ e) in
-      (c .0, ⊎-elim
-      (λ h. record { here = h .1 .held s p ∙ h .0 ∙ sym (ap lowered (h .0)); others = λ a b far. h .1 .held a b; marks = h .1 .marks })
-      (λ h. record { here = h .1 .here ∙ ap Some (low (h .0)) ∙ sym (ap lowered (h .1 .was)); others = h .1 .others; marks = h .1 .same (readOnly-dirty (h .0)) })
-      (c .1))
+      let c = changed s p x y st K readOnly zero-readOnly mapped-readOnly readOnly-frame readOnly-dirty (λ w e. sym (readOnly-wired w) ∙ e) in (
+        c .0,
+        ⊎-elim
+            (λ h. record { here = h .1 .held s p ∙ h .0 ∙ sym (ap lowered (h .0)); others = λ a b far. h .1 .held a b; marks = h .1 .marks })
+            (λ h. record { here = h .1 .here ∙ ap Some (low (h .0)) ∙ sym (ap lowered (h .1 .was)); others = h .1 .others; marks = h .1 .same (readOnly-dirty (h .0)) })
+            (c .1),
+      )
     where
       low : (w : ℕ) → _≡_ {A = Mapping} (mappingIn (readOnly w)) (frameOf w, 1, wired w)
       low w = simp (readOnly-frame w, readOnly-writable w, readOnly-wired w)
@@ -149,12 +155,14 @@ module _ (s p : ℕ) (x : s < 4) (y : p < 262144) (st : State) (K : Kept st) whe
   -- unwire
   pub unwire-means : Kept (rewrittenAt unwired st s p) × Unwired (viewOf st) (viewOf (rewrittenAt unwired st s p)) s p (viewOf st .held s p)
   unwire-means =
-      let c = changed s p x y st K unwired zero-unwired mapped-unwired unwired-frame unwired-dirty (λ w e. absurd (both-ways (wired (unwired w)) (unwired-wired w) e)) in
-      (c .0, ⊎-elim
-      (λ h. subst (Unwired (viewOf st) (viewOf (rewrittenAt unwired st s p)) s p) (sym (h .0)) (h .1))
-      (λ h. subst (Unwired (viewOf st) (viewOf (rewrittenAt unwired st s p)) s p) (sym (h .1 .was))
-      (record { here = h .1 .here ∙ ap Some (off (h .0)); others = λ a b far. inl (h .1 .others a b far); marked = h .1 .same (unwired-dirty (h .0)) }))
-      (c .1))
+      let c = changed s p x y st K unwired zero-unwired mapped-unwired unwired-frame unwired-dirty (λ w e. absurd (both-ways (wired (unwired w)) (unwired-wired w) e)) in (
+        c .0,
+        ⊎-elim
+            (λ h. subst (Unwired (viewOf st) (viewOf (rewrittenAt unwired st s p)) s p) (sym (h .0)) (h .1))
+            (λ h. subst (Unwired (viewOf st) (viewOf (rewrittenAt unwired st s p)) s p) (sym (h .1 .was))
+            (record { here = h .1 .here ∙ ap Some (off (h .0)); others = λ a b far. inl (h .1 .others a b far); marked = h .1 .same (unwired-dirty (h .0)) }))
+            (c .1),
+      )
     where
       off : (w : ℕ) → _≡_ {A = Mapping} (mappingIn (unwired w)) (frameOf w, protectionOf w, false)
       off w = simp (unwired-frame w, unwired-writable w, unwired-wired w)
@@ -195,11 +203,15 @@ serves-answers false right write wires f = refl
 module _ (s p : ℕ) (x : s < 4) (y : p < 262144) (st : State) (K : Kept st) (write : Bool) where
   -- the bits of a hit go on
   hit-there : (t : ℕ) → Reaches st (linear s p) t → present (wordAt st (512 * t + linear s p % 512)) ≡ true
-    → Kept (hit st (met (linear s p) t) write) × PutForgetting (viewOf st) (viewOf (hit st (met (linear s p) t) write)) s p (viewOf st .held s p) (marked (viewOf st .modified) write (frameOf (wordAt st (512 * t + linear s p % 512))))
-  hit-there t r on = (both .0, record {
-    here = W .here ∙ ap Some (hit-mapping w write) ∙ sym (W .was) ∙ T .same .held s p;
-    others = λ a b far. inl (W .others a b far ∙ T .same .held a b);
-    marked = marks write refl })
+      → Kept (hit st (met (linear s p) t) write) × PutForgetting (viewOf st) (viewOf (hit st (met (linear s p) t) write)) s p (viewOf st .held s p) (marked (viewOf st .modified) write (frameOf (wordAt st (512 * t + linear s p % 512))))
+  hit-there t r on = (
+    both .0,
+    record {
+      here = W .here ∙ ap Some (hit-mapping w write) ∙ sym (W .was) ∙ T .same .held s p;
+      others = λ a b far. inl (W .others a b far ∙ T .same .held a b);
+      marked = marks write refl;
+    },
+  )
     where
       n : ℕ
       n = linear s p
@@ -263,7 +275,7 @@ module _ (s p : ℕ) (x : s < 4) (y : p < 262144) (st : State) (K : Kept st) (wr
   Answers u a = Kept u × (a ≡ answered (viewOf st .held s p) write) × Accessed (viewOf st) (viewOf u) s p write a
 
   access-there : (t : ℕ) → Reaches st (linear s p) t
-    → Answers (cond (serves (wordAt st (512 * t + linear s p % 512)) write) (hit st (met (linear s p) t) write) st) (cond (serves (wordAt st (512 * t + linear s p % 512)) write) (Hit (frameOf (wordAt st (512 * t + linear s p % 512)))) Miss)
+      → Answers (cond (serves (wordAt st (512 * t + linear s p % 512)) write) (hit st (met (linear s p) t) write) st) (cond (serves (wordAt st (512 * t + linear s p % 512)) write) (Hit (frameOf (wordAt st (512 * t + linear s p % 512)))) Miss)
   unfolding Answers
   access-there t r = ⊎-elim
       (λ (e : serves w write ≡ true).

@@ -1,24 +1,21 @@
 -- A change of the leaf word of one page.
-use mathlib.Core.Path.{_≡_, refl, sym, ap, _∙_, subst}
+use mathlib.Core.Path.{_≡_, refl, sym, ap, _∙_}
 use mathlib.Core.Logic.{_⊎_, inl, inr, ⊎-elim}
-use mathlib.Core.Bool.{Bool, true, false, cond}
+use mathlib.Core.Bool.{true, false, cond}
 use Prim.Native.Nat.{ℕ, _+_, _-_, _*_, _/_, _%_, _<_, _≤_}
 use native.Mathlib.Omega.{arith}
-use lib.ListN.{getD}
 use lib.Dec.{eqb}
-use Rattle.std.specs.declared.option.Option.{Option}
-use Rattle.std.specs.declared.option.Option.the-variants.{Some, None}
+use Rattle.std.specs.declared.option.Option.the-variants.{None}
 use Rattle.std.proofs.shelf.Tests.{cases-eq, cond-true, cond-false, eq-eqb, ne-eqb}
 use Rattle.pmap.specs.Tally.{tally}
-use Rattle.slots.specs.Slots.{Entry, Table}
 use Rattle.slots.specs.Changes.{Filled, Rewritten, Unchanged}
-use Rattle.x86.specs.Words.{present, dirty, wired, frameOf}
+use Rattle.x86.specs.Words.{dirty, wired, frameOf}
 use Rattle.x86.specs.State.{State, wordAt, written}
 use Rattle.x86_pmap.specs.Kept.{Kept, Mapped, Owner, wiredLeaf}
 use Rattle.x86_pmap.proofs.Fields.{mapped-present, zero-present}
 use Rattle.x86_pmap.proofs.Tables.{table, slotOf, slotIn, entryOf, Reaches, slot-reached}
-use Rattle.x86_pmap.proofs.Keeps.{Alike, Kin, kin-kept, fewer, written-here, written-there, written-kin}
-use Rattle.x86_pmap.proofs.Follows.{reach-inj, reach-same, reaches-on, both-slots}
+use Rattle.x86_pmap.proofs.Keeps.{Alike, kin-kept, fewer, written-here, written-there, written-kin}
+use Rattle.x86_pmap.proofs.Follows.{reach-inj, reaches-on, both-slots}
 
 -- the directory word of a page that comes to a leaf
 pub reach-owner : (st : State) (n t k : ℕ) → Reaches st n t → k ≡ 512 * t + n % 512 → Owner st (k / 512)
@@ -28,9 +25,6 @@ reach-owner st n t k r e =
     rw q (record { at = 1024 + n / 512; low = omega arith; high = omega arith; points = r .points })
 
 module _ (st : State) (K : Kept st) (n t w : ℕ) (r : Reaches st n t) where
-  at : ℕ
-  at = 512 * t + n % 512
-
   at-low : 3072 ≤ 512 * t + n % 512
   at-low = omega (arith, r .low)
 
@@ -56,7 +50,7 @@ module _ (st : State) (K : Kept st) (n t w : ℕ) (r : Reaches st n t) where
 
     -- a word in use is rewritten with the same frame
     pub one-rewritten : Mapped (wordAt st (512 * t + n % 512)) → Mapped w → frameOf w ≡ frameOf (wordAt st (512 * t + n % 512)) → (dirty (wordAt st (512 * t + n % 512)) ≡ true → dirty w ≡ true)
-      → Rewritten (table st) (table (written st (512 * t + n % 512) w)) n (entryOf n (wordAt st (512 * t + n % 512))) (entryOf n w)
+        → Rewritten (table st) (table (written st (512 * t + n % 512) w)) n (entryOf n (wordAt st (512 * t + n % 512))) (entryOf n w)
     one-rewritten m m′ frame stays = record {
       was = slot-reached st K n t r ∙ cond-true _ _ None (mapped-present _ m);
       slots = λ j. one-slot j ∙ ap (λ x. cond (eqb j n) x (slotOf st j)) (cond-true _ _ None (mapped-present _ m′));
@@ -64,7 +58,8 @@ module _ (st : State) (K : Kept st) (n t w : ℕ) (r : Reaches st n t) where
       page = refl;
       frame = frame;
       stays = stays;
-      marks = λ f. refl }
+      marks = λ f. refl;
+    }
 
     -- an empty word is filled
     pub one-filled : wordAt st (512 * t + n % 512) ≡ 0 → Mapped w → dirty w ≡ false → Filled (table st) (table (written st (512 * t + n % 512) w)) n (entryOf n w)
@@ -72,7 +67,8 @@ module _ (st : State) (K : Kept st) (n t w : ℕ) (r : Reaches st n t) where
       empty = slot-reached st K n t r ∙ ap (slotIn n) z ∙ cond-false _ _ None zero-present;
       slots = λ j. one-slot j ∙ ap (λ x. cond (eqb j n) x (slotOf st j)) (cond-true _ _ None (mapped-present _ m));
       clean = clean;
-      marks = λ f. refl }
+      marks = λ f. refl;
+    }
 
     -- an empty word stays empty
     pub one-unchanged : wordAt st (512 * t + n % 512) ≡ 0 → w ≡ 0 → Unchanged (table st) (table (written st (512 * t + n % 512) w))
@@ -81,7 +77,8 @@ module _ (st : State) (K : Kept st) (n t w : ℕ) (r : Reaches st n t) where
           (λ (q : j ≡ n). cond-true _ _ _ (eq-eqb j n q) ∙ ap (slotIn n) (e ∙ sym z) ∙ sym (slot-reached st K n t r) ∙ ap (slotOf st) (sym q))
           (λ (q : j ≡ n → ⊥). cond-false _ _ _ (ne-eqb j n q))
           (cases-eq j n);
-      marks = λ f. refl }
+      marks = λ f. refl;
+    }
 
   -- the change keeps the facts, unless too many are wired then
   pub one-kept : (w ≡ 0) ⊎ Mapped w → tally (wiredLeaf (written st (512 * t + n % 512) w)) 8192 ≤ 8 → Kept (written st (512 * t + n % 512) w)

@@ -1,8 +1,8 @@
 -- A cleared board keeps the facts, and holds nothing.
 use mathlib.Core.Path.{_≡_, refl, sym, ap, _∙_, subst, fun-ext}
 use mathlib.Core.Logic.{_⊎_, inl, inr, ⊎-elim}
-use mathlib.Core.Bool.{Bool, true, false, cond, _&&_, _||_}
-use Prim.Native.Nat.{ℕ, _+_, _-_, _*_, _/_, _%_, _<_, _≤_}
+use mathlib.Core.Bool.{true, false, _&&_}
+use Prim.Native.Nat.{ℕ, _+_, _-_, _/_, _<_, _≤_}
 use native.Mathlib.Omega.{arith}
 use lib.ListN.{getD, length, replicate}
 use lib.Dec.{eqb, leb, ltb}
@@ -12,10 +12,9 @@ use Rattle.std.proofs.shelf.Lists.{length-replicate, getD-replicate, getD-past}
 use Rattle.std.proofs.shelf.Counted.{length-map-counting}
 use Rattle.pmap.specs.Meaning.{Cleared}
 use Rattle.pmap.specs.Ranges.{fitsPlace}
-use Rattle.pmap.specs.Tally.{tally}
 use Rattle.x86.specs.Words.{pointer, dirty, wired, dirtyIn}
 use Rattle.x86.specs.Walks.{linear}
-use Rattle.x86.specs.State.{State, wordAt, found, isLeaf, anyDirty, startWord, started}
+use Rattle.x86.specs.State.{wordAt, found, isLeaf, anyDirty, startWord, started}
 use Rattle.x86.proofs.Sweeps.{rewritten-word, any-dirty}
 use Rattle.x86.proofs.Sets.{tally-zero}
 use Rattle.x86_pmap.specs.Kept.{Kept, Points, wiredLeaf}
@@ -31,7 +30,7 @@ start-entry : (s : ℕ) → s < 4 → startWord (512 + s) ≡ pointer (2 + s)
 unfolding startWord
 start-entry s h =
     cond-false (eqb (512 + s) 0) _ _ (ne-eqb (512 + s) 0 (omega arith))
-    ∙ cond-true (leb 512 (512 + s) && ltb (512 + s) 516) (pointer (512 + s - 510)) 0 (and-from _ _ (le-leb 512 (512 + s) (omega arith)) (lt-ltb (512 + s) 516 (omega arith)))
+    ∙ cond-true (leb 512 (512 + s) && ltb (512 + s) 516) (pointer (512 + s - 512 + 2)) 0 (and-from _ _ (le-leb 512 (512 + s) (omega arith)) (lt-ltb (512 + s) 516 (omega arith)))
     ∙ ap pointer (omega arith)
 
 start-blank : (k : ℕ) → 0 < k → (512 ≤ k → k < 516 → ⊥) → startWord k ≡ 0
@@ -39,9 +38,9 @@ unfolding startWord
 start-blank k h far =
     cond-false (eqb k 0) _ _ (ne-eqb k 0 (omega arith))
     ∙ ⊎-elim
-      (λ (e : (leb 512 k && ltb k 516) ≡ true). let parts = and-parts (leb 512 k) (ltb k 516) e in absurd (far (leb-true 512 k (parts .0)) (ltb-true k 516 (parts .1))))
-      (λ (e : (leb 512 k && ltb k 516) ≡ false). cond-false _ _ 0 e)
-      (cases-bool (leb 512 k && ltb k 516))
+    (λ (e : (leb 512 k && ltb k 516) ≡ true). let parts = and-parts (leb 512 k) (ltb k 516) e in absurd (far (leb-true 512 k (parts .0)) (ltb-true k 516 (parts .1))))
+    (λ (e : (leb 512 k && ltb k 516) ≡ false). cond-false _ _ 0 e)
+    (cases-bool (leb 512 k && ltb k 516))
 
 start-zero : (k : ℕ) → 1024 ≤ k → k < 8192 → wordAt started k ≡ 0
 start-zero k p h = start-word k h ∙ start-blank k (omega arith) (λ a b. omega arith)
@@ -74,7 +73,8 @@ start-kept = record {
   directories = λ k p h. inl (start-zero k p (omega arith));
   single = λ j k t a b c d p q. absurd (points-some _ t p (start-zero j a (omega arith)));
   leaves = λ k p h. inl (start-zero k (omega arith) h);
-  few = let none = tally-zero (wiredLeaf started) 8192 (λ k h. unwired k h) in omega (arith, none) }
+  few = let none = tally-zero (wiredLeaf started) 8192 (λ k h. unwired k h) in omega (arith, none);
+}
   where
     unwired : (k : ℕ) → k < 8192 → wiredLeaf started k ≡ false
     unwired k h = ⊎-elim
@@ -94,7 +94,8 @@ start-cleared = record {
       cond-true (fitsPlace a b) (found started a b) None e ∙ found-nothing started start-kept a b (linear a b) (omega arith) refl (start-zero (1024 + linear a b / 512) (omega arith) (omega arith)))
       (λ (e : fitsPlace a b ≡ false). cond-false (fitsPlace a b) (found started a b) None e)
       (cases-bool (fitsPlace a b));
-  marks = fun-ext (λ f. or-from (getD (started .marks) f false) (anyDirty (started .words) isLeaf f 8192) (unmarked f) (clean f)) }
+  marks = fun-ext (λ f. or-from (getD (started .marks) f false) (anyDirty (started .words) isLeaf f 8192) (unmarked f) (clean f));
+}
   where
     unmarked : (f : ℕ) → getD (started .marks) f false ≡ false
     unmarked f = ap (λ ms. getD ms f false) start-marks ∙ ⊎-elim

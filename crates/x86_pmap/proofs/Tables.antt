@@ -1,28 +1,28 @@
 -- The words of a kept board as slots: one slot for each linear page, with what the walk finds there.
 use mathlib.Core.Path.{_≡_, refl, sym, ap, _∙_}
 use mathlib.Core.Logic.{_⊎_, inl, inr, ⊎-elim}
-use mathlib.Core.Bool.{Bool, true, false, cond, _&&_, _||_}
+use mathlib.Core.Bool.{true, false, cond}
 use Prim.Native.Nat.{ℕ, _+_, _-_, _*_, _/_, _%_, _<_, _≤_}
 use native.Mathlib.Omega.{arith}
-use lib.ListN.{getD, length}
-use lib.Dec.{eqb, ltb, leb}
+use lib.ListN.{getD}
+use lib.Dec.{eqb, ltb}
 use Rattle.std.specs.declared.option.Option.{Option}
 use Rattle.std.specs.declared.option.Option.the-variants.{Some, None}
 use Rattle.std.proofs.shelf.Tests.{cases-lt, cases-bool, cond-true, cond-false, lt-ltb, le-ltb, ltb-true, le-leb, leb-true, and-from, and-parts, or-left, or-right, or-cases, both-ways, eq-eqb, eqb-true}
 use Rattle.std.proofs.shelf.Bits.{shr-shr}
-use Rattle.pmap.specs.Meaning.{View, Mapping}
+use Rattle.pmap.specs.Meaning.{Mapping}
 use Rattle.pmap.specs.Ranges.{fitsPlace}
 use Rattle.slots.specs.Slots.{Entry, Table, Single, Held, Bit, Shows, mappingOf}
 use Rattle.slots.proofs.Shown.{none-some, some-inj}
 use Rattle.x86.specs.declared.walk.Walk.{Walk}
 use Rattle.x86.specs.Words.{present, dirty, wired, frameOf, protectionOf, dirtyIn, tableOf}
 use Rattle.x86.specs.Walks.{linear, position, walk}
-use Rattle.x86.specs.State.{State, wordAt, reached, found, foundIn, modifiedIn, isLeaf, anyDirty}
+use Rattle.x86.specs.State.{State, wordAt, reached, found, foundIn, isLeaf, anyDirty}
 use Rattle.x86.proofs.Steps.{walk-no-leaf, walk-leaf}
 use Rattle.x86.proofs.Sweeps.{any-dirty}
-use Rattle.x86_pmap.specs.Kept.{Kept, Points, Mapped, Leads, Owner}
+use Rattle.x86_pmap.specs.Kept.{Kept, Points, Mapped, Owner}
 use Rattle.x86_pmap.specs.Views.{viewOf}
-use Rattle.x86_pmap.proofs.Fields.{points-table, zero-table, mapped-present, mapped-some, zero-present, zero-dirty}
+use Rattle.x86_pmap.proofs.Fields.{points-table, zero-table, mapped-present, zero-dirty}
 
 -- what a slot holds: a leaf word for a linear page
 abbrev pub entryOf : ℕ → ℕ → Entry
@@ -77,7 +77,8 @@ module _ (st : State) (K : Kept st) where
       low = low;
       high = high;
       points = p;
-      walks = walk-leaf (st .words) n 0 at-root 1 (512 + n / 262144) to-entry at-entry (2 + n / 262144) (1024 + n / 512) to-directory at-directory t (512 * t + n % 512) (sym (points-table _ t p (omega arith))) (omega arith) }
+      walks = walk-leaf (st .words) n 0 at-root 1 (512 + n / 262144) to-entry at-entry (2 + n / 262144) (1024 + n / 512) to-directory at-directory t (512 * t + n % 512) (sym (points-table _ t p (omega arith))) (omega arith);
+    }
 
     -- the directory word of a page is zero, or the walk comes to a leaf
     pub page-cases : (wordAt st (1024 + n / 512) ≡ 0) ⊎ ((t : ℕ) × Reaches st n t)
@@ -136,7 +137,8 @@ module _ (st : State) (K : Kept st) where
         page = n;
         reaches = r;
         at = back;
-        slot = slot-reached st K n (k / 512) r ∙ ap (λ j. slotIn n (wordAt st j)) back ∙ cond-true _ (Some (entryOf n (wordAt st k))) None (mapped-present _ m) }
+        slot = slot-reached st K n (k / 512) r ∙ ap (λ j. slotIn n (wordAt st j)) back ∙ cond-true _ (Some (entryOf n (wordAt st k))) None (mapped-present _ m);
+      }
         where
           n : ℕ
           n = (o .at - 1024) * 512 + k % 512
@@ -206,7 +208,8 @@ module _ (st : State) (K : Kept st) where
                 entry = entryOf (linear a b) w;
                 found = slot-reached st K (linear a b) t r ∙ cond-true _ _ None p;
                 space = omega arith;
-                page = omega arith })
+                page = omega arith;
+              })
               (λ (p : present w ≡ false). absurd (none-some (sym (found-reached a b (linear a b) t r refl ∙ cond-false _ _ None p) ∙ g)))
               (cases-bool (present w))
             where
@@ -241,4 +244,5 @@ module _ (st : State) (K : Kept st) where
         (λ d. let x = any-dirty (st .words) isLeaf f 8192 .0 d in
         let parts = and-parts (isLeaf (x .0)) _ (x .2) in
         inr (word-bit (x .0) f (leb-true 3072 (x .0) (parts .0)) (x .1) (parts .1)))
-        (or-cases (getD (st .marks) f false) (anyDirty (st .words) isLeaf f 8192) e) }
+        (or-cases (getD (st .marks) f false) (anyDirty (st .words) isLeaf f 8192) e);
+  }

@@ -1,36 +1,30 @@
 -- Taking a leaf: all in it is forgotten, the directory word that pointed to it goes, and that of the place points to it.
 use mathlib.Core.Path.{_≡_, refl, sym, ap, _∙_, subst}
 use mathlib.Core.Logic.{_⊎_, inl, inr, ⊎-elim}
-use mathlib.Core.Bool.{Bool, true, false, cond, _&&_, _||_}
+use mathlib.Core.Bool.{false, cond}
 use Prim.Native.Nat.{ℕ, _+_, _-_, _*_, _/_, _%_, _<_, _≤_}
 use native.Mathlib.Omega.{arith}
-use lib.ListN.{getD, length, set}
-use lib.Dec.{eqb, leb, ltb}
-use Rattle.std.specs.declared.option.Option.{Option}
+use lib.ListN.{getD, length}
 use Rattle.std.specs.declared.option.Option.the-variants.{Some, None}
-use Rattle.std.proofs.shelf.Tests.{and-parts, and-from, and-left, le-leb, lt-ltb, lt-leb, le-ltb, cond-true, cond-false, both-ways, cases-bool, cases-eq, cases-lt, eq-eqb, ne-eqb, eqb-true}
+use Rattle.std.proofs.shelf.Tests.{cond-true, cond-false, cases-eq, cases-lt, eq-eqb, ne-eqb}
 use Rattle.std.proofs.shelf.Lists.{getD-set-same, getD-set-other, length-set}
 use Rattle.std.proofs.shelf.Counted.{length-map-counting}
-use Rattle.pmap.specs.Meaning.{View, Same, Stays}
-use Rattle.slots.specs.Slots.{Entry}
-use Rattle.slots.proofs.Shown.{unchanged-same, emptied-stays}
-use Rattle.slots.proofs.Shown.{emptied-marks as stays-marks}
+use Rattle.pmap.specs.Meaning.{Same}
+use Rattle.slots.proofs.Shown.{unchanged-same}
 use Rattle.x86.specs.Words.{present, wired, pointer, pointsTo}
-use Rattle.x86.specs.State.{State, wordAt, isDirectory, holdsWired, leafAfter, emptied, inLeaf, unlinkedWord, unlinked, linked}
-use Rattle.x86.proofs.Sweeps.{emptied-emptying, rewritten-word}
-use Rattle.x86.proofs.Sets.{any-wired, unlinked-low, unlinked-here, unlinked-past}
-use Rattle.x86_pmap.specs.Kept.{Kept, Points, Mapped, Leads, Owner, wiredLeaf}
+use Rattle.x86.specs.State.{State, wordAt, unlinkedWord, unlinked, linked}
+use Rattle.x86.proofs.Sweeps.{rewritten-word}
+use Rattle.x86.proofs.Sets.{unlinked-low, unlinked-here, unlinked-past}
+use Rattle.x86_pmap.specs.Kept.{Kept, Points, Mapped, Owner}
 use Rattle.x86_pmap.specs.Views.{viewOf}
-use Rattle.x86_pmap.proofs.Fields.{points-same, points-some, points-at, pointer-points, zero-points-to, zero-present, zero-wired}
-use Rattle.x86_pmap.proofs.Tables.{table, slotOf, slotIn, entryOf, Reaches, Used, page-cases, walk-reaches, slot-nothing, slot-reached, slot-past, slot-used, table-shows, table-single}
+use Rattle.x86_pmap.proofs.Fields.{points-same, points-some, points-at, pointer-points, zero-points-to, zero-present}
+use Rattle.x86_pmap.proofs.Tables.{table, slotOf, slotIn, entryOf, Reaches, page-cases, walk-reaches, slot-nothing, slot-reached, slot-past, table-shows}
 use Rattle.x86_pmap.proofs.Keeps.{fewer}
-use Rattle.x86_pmap.proofs.Follows.{pagesIn, pages-in, emptying-slots}
-use Rattle.x86_pmap.proofs.Frames.{emptied-word, emptied-upper, emptied-kept}
 use Rattle.x86_pmap.proofs.Choices.{after-low, after-high}
 
 -- an empty leaf t, and a directory word j that is zero: the words that point to t are emptied, and j comes to point to it
 module _ (st : State) (K : Kept st) (t j : ℕ) (low : 6 ≤ t) (high : t ≤ 15) (j-low : 1024 ≤ j) (j-high : j < 3072) (zero-j : wordAt st j ≡ 0)
-  (bare : (k : ℕ) → k / 512 ≡ t → wordAt st k ≡ 0) where
+    (bare : (k : ℕ) → k / 512 ≡ t → wordAt st k ≡ 0) where
   abbrev after : State
   after = linked (unlinked st t) t j
 
@@ -93,9 +87,10 @@ module _ (st : State) (K : Kept st) (t j : ℕ) (low : 6 ≤ t) (high : t ≤ 15
 
   -- a word other than j that points somewhere is as before, and does not point to t
   after-points : (k u : ℕ) → 1024 ≤ k → k < 3072 → (k ≡ j → ⊥) → Points (wordAt after k) u → (Points (wordAt st k) u) × (u ≡ t → ⊥)
-  after-points k u p h far q = elim (after-cases k p h far)
-      [ gone z ↦ absurd (points-some _ u q z)
-      | kept v w ne a b e ↦ (let r : Points (wordAt st k) u = subst (λ x. Points x u) e q in (r, λ s. ne (points-same _ v u w r ∙ s))) ]
+  after-points k u p h far q = elim (after-cases k p h far) [
+    | gone z ↦ absurd (points-some _ u q z)
+    | kept v w ne a b e ↦ (let r : Points (wordAt st k) u = subst (λ x. Points x u) e q in (r, λ s. ne (points-same _ v u w r ∙ s)))
+  ]
 
   pub relinked-kept : Kept after
   relinked-kept = record {
@@ -108,16 +103,18 @@ module _ (st : State) (K : Kept st) (t j : ℕ) (low : 6 ≤ t) (high : t ≤ 15
     blank = λ k p h q. top-word k h ∙ K .blank k p h q;
     directories = λ k p h. ⊎-elim
         (λ (e : k ≡ j). inr (record { leaf = t; low = low; high = high; points = subst (λ i. Points (wordAt after i) t) (sym e) here-points }))
-        (λ (e : k ≡ j → ⊥). elim (after-cases k p h e)
-        [ gone z ↦ inl z
-        | kept u w ne a b q ↦ inr (record { leaf = u; low = a; high = b; points = subst (λ x. Points x u) (sym q) w }) ])
+        (λ (e : k ≡ j → ⊥). elim (after-cases k p h e) [
+          | gone z ↦ inl z
+          | kept u w ne a b q ↦ inr (record { leaf = u; low = a; high = b; points = subst (λ x. Points x u) (sym q) w })
+        ])
         (cases-eq k j);
     single = single;
     leaves = λ k p h. ⊎-elim
         (λ z. inl (leaf-word k p h ∙ z))
         (λ m. inr (subst Mapped (sym (leaf-word k p h)) (m .0), owner k (m .1) (λ e. mapped-not k (m .0) (bare k e))))
         (K .leaves k p h);
-    few = fewer st after K (λ k p h e. sym (ap wired (leaf-word k p h)) ∙ e) }
+    few = fewer st after K (λ k p h e. sym (ap wired (leaf-word k p h)) ∙ e);
+  }
     where
       mapped-not : (k : ℕ) → Mapped (wordAt st k) → wordAt st k ≡ 0 → ⊥
       mapped-not k m z = omega (arith, m .is, z)

@@ -1,20 +1,18 @@
 -- The accessed bit goes on in a word above the leaves: nothing of the view changes.
 use mathlib.Core.Path.{_≡_, refl, sym, ap, _∙_}
 use mathlib.Core.Logic.{_⊎_, inl, inr, ⊎-elim}
-use Prim.Native.Nat.{ℕ, _+_, _-_, _*_, _/_, _%_, _<_, _≤_}
+use Prim.Native.Nat.{ℕ, _+_, _-_, _*_, _%_, _<_, _≤_}
 use native.Mathlib.Omega.{arith}
-use lib.ListN.{getD}
 use Rattle.std.proofs.shelf.Tests.{cases-eq}
 use Rattle.std.proofs.shelf.Lists.{getD-set-same, getD-set-other, length-set}
-use Rattle.pmap.specs.Meaning.{View, Same}
+use Rattle.pmap.specs.Meaning.{Same}
 use Rattle.slots.proofs.Shown.{unchanged-same}
 use Rattle.x86.specs.Words.{wired, touched}
 use Rattle.x86.specs.State.{State, wordAt, rewritten}
 use Rattle.x86_pmap.specs.Kept.{Kept}
 use Rattle.x86_pmap.specs.Views.{viewOf}
-use Rattle.x86_pmap.proofs.Fields.{points-some}
-use Rattle.x86_pmap.proofs.Tables.{table, slotOf, slotIn, Reaches, table-shows}
-use Rattle.x86_pmap.proofs.Keeps.{Alike, Kin, kin-kept, fewer}
+use Rattle.x86_pmap.proofs.Tables.{table, slotIn, Reaches, table-shows}
+use Rattle.x86_pmap.proofs.Keeps.{Alike, kin-kept, fewer}
 use Rattle.x86_pmap.proofs.Follows.{reaches-on, both-slots}
 
 -- u is st but for accessed bits above the leaves
@@ -31,12 +29,10 @@ touching-more a b c p q = record {
   same = record { held = λ s g. q .same .held s g ∙ p .same .held s g; marks = q .same .marks ∙ p .same .marks };
   reaches = λ n t r. q .reaches n t (p .reaches n t r);
   leaf = λ k h. q .leaf k h ∙ p .leaf k h;
-  marks = q .marks ∙ p .marks }
+  marks = q .marks ∙ p .marks;
+}
 
 module _ (st : State) (K : Kept st) (at : ℕ) (low : at < 3072) (some : wordAt st at ≡ 0 → ⊥) where
-  v : State
-  v = rewritten st at touched
-
   pub touch : Touching st (rewritten st at touched)
   touch = record {
     kept = L;
@@ -44,7 +40,8 @@ module _ (st : State) (K : Kept st) (at : ℕ) (low : at < 3072) (some : wordAt 
         (record { slots = both-slots st u K L upper (λ n a b. b ≡ a) (λ n. refl) (λ n t r. ap (slotIn n) (leaf (512 * t + n % 512) (omega (arith, r .low)))); marks = λ f. refl });
     reaches = reaches-on st u K L upper;
     leaf = leaf;
-    marks = refl }
+    marks = refl;
+  }
     where
       u : State
       u = rewritten st at touched
@@ -63,6 +60,11 @@ module _ (st : State) (K : Kept st) (at : ℕ) (low : at < 3072) (some : wordAt 
 
       L : Kept u
       L = kin-kept st u K
-          (record { size = length-set (st .words) at (touched (wordAt st at)) ∙ K .size; marked = K .marked; next = refl; upper = upper;
-            lower = λ k p h. ⊎-elim (λ z. inl (leaf k p ∙ z)) (λ m. rw (leaf k p) (inr m)) (K .leaves k p h) })
+          (record {
+            size = length-set (st .words) at (touched (wordAt st at)) ∙ K .size;
+            marked = K .marked;
+            next = refl;
+            upper = upper;
+            lower = λ k p h. ⊎-elim (λ z. inl (leaf k p ∙ z)) (λ m. rw (leaf k p) (inr m)) (K .leaves k p h);
+          })
           (fewer st u K (λ k p h e. sym (ap wired (leaf k p)) ∙ e))

@@ -1,11 +1,10 @@
 -- The count of wired leaf words tells whether eight other places are wired.
 use mathlib.Core.Path.{_≡_, refl, sym, ap, _∙_, subst}
 use mathlib.Core.Logic.{_⊎_, inl, inr, ⊎-elim}
-use mathlib.Core.Bool.{Bool, true, false, cond, not, _&&_, _||_}
+use mathlib.Core.Bool.{Bool, true, false, not, _&&_}
 use Prim.Native.Nat.{ℕ, _+_, _-_, _*_, _/_, _%_, _<_, _≤_}
 use native.Mathlib.Omega.{arith}
-use lib.ListN.{getD, length}
-use lib.Dec.{eqb, leb}
+use lib.Dec.{eqb}
 use Rattle.std.specs.declared.option.Option.{Option}
 use Rattle.std.specs.declared.option.Option.the-variants.{Some, None}
 use Rattle.std.proofs.shelf.Tests.{and-parts, and-from, leb-true, leb-false, le-leb, cases-lt, cases-bool, both-ways, eq-eqb, eqb-true, not-true}
@@ -13,16 +12,14 @@ use Rattle.std.proofs.shelf.Lists.{getD-past}
 use Rattle.pmap.specs.Meaning.{Crowded}
 use Rattle.pmap.specs.Tally.{tally}
 use Rattle.slots.specs.Slots.{Entry, wiredElsewhere}
-
 use Rattle.slots.proofs.Shown.{crowded as slots-crowded, not-crowded as slots-not-crowded}
-use Rattle.x86.specs.declared.walk.Walk.{Walk}
 use Rattle.x86.specs.Words.{wired}
 use Rattle.x86.specs.Walks.{linear, walk}
 use Rattle.x86.specs.State.{State, wordAt, reached, isLeaf, isOwn, wiredBeside, crowded}
 use Rattle.x86_pmap.specs.Kept.{Kept}
 use Rattle.x86_pmap.specs.Views.{viewOf}
 use Rattle.x86_pmap.proofs.Fields.{zero-wired}
-use Rattle.x86_pmap.proofs.Tables.{table, slotOf, entryOf, met, Reaches, Used, Placed, page-cases, walk-nothing, slot-past, slot-used, word-placed, table-shows, table-single}
+use Rattle.x86_pmap.proofs.Tables.{table, slotOf, entryOf, Reaches, Placed, page-cases, walk-nothing, slot-past, slot-used, word-placed, table-shows, table-single}
 use Rattle.x86_pmap.proofs.Counts.{tally-inject}
 use Rattle.x86_pmap.proofs.Follows.{reach-inj, reach-same}
 use Rattle.x86_pmap.proofs.Places.{page-inside, page-space, page-page, page-is}
@@ -32,9 +29,6 @@ option-cases None = inl refl
 option-cases (Some a) = inr (a, refl)
 
 module _ (s p : ℕ) (x : s < 4) (y : p < 262144) (st : State) (K : Kept st) where
-  own : Option Walk
-  own = walk (st .words) (linear s p)
-
   abbrev words : ℕ → Bool
   words k = wiredBeside st (walk (st .words) (linear s p)) k
 
@@ -135,9 +129,11 @@ module _ (s p : ℕ) (x : s < 4) (y : p < 262144) (st : State) (K : Kept st) whe
           let e = slot-entry n h in
           let u = slot-used st K n (e .0) (e .1) in
           let r = u .reaches in
-          rw (position-is n (u .leaf) r)
-          (omega (arith, r .high), and-from _ _ (le-leb 3072 (512 * u .leaf + n % 512) (omega (arith, r .low)))
-          (and-from _ _ (sym (ap (λ z. z .wired) (u .is)) ∙ e .2) (ap not (not-own n (u .leaf) r (sym (ap (λ z. eqb (z .space) s && eqb (z .page) p) (u .is)) ∙ e .3)))))
+          rw (position-is n (u .leaf) r) (
+            omega (arith, r .high),
+            and-from _ _ (le-leb 3072 (512 * u .leaf + n % 512) (omega (arith, r .low)))
+                (and-from _ _ (sym (ap (λ z. z .wired) (u .is)) ∙ e .2) (ap not (not-own n (u .leaf) r (sym (ap (λ z. eqb (z .space) s && eqb (z .page) p) (u .is)) ∙ e .3)))),
+          )
 
       apart : (n m : ℕ) → n < 1048576 → m < 1048576 → slots n ≡ true → slots m ≡ true → position-of n ≡ position-of m → n ≡ m
       apart n m a b g h e =

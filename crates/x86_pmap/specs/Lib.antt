@@ -1,2 +1,3 @@
 pub mod Kept
 pub mod Views
+pub mod Seen

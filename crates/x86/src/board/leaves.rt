@@ -7,8 +7,11 @@ ghost use Rattle.x86.specs.State.{wordAt, written, emptied, unlinked, linked, 
 ghost use Rattle.x86.specs.Reads.{state};
 use super::Board;
 use super::DIRECTORIES;
-use super::LEAF_COUNT;
+use super::FIRST_DIRECTORY;
+use super::FIRST_LEAF;
+use super::LAST_LEAF;
 use super::LEAVES;
+use super::TABLE;
 use crate::word::is_wired;
 use crate::word::pointer;
 use crate::word::points_to;
@@ -20,7 +23,11 @@ fn leaf_after(leaf: usize) -> usize
     ensures low { λ r. ⌜ 6 ≤ r ⌝ }
     ensures high { λ r. ⌜ r ≤ 15 ⌝ }
 {
-    if leaf == 15 { 6 } else { leaf + 1 }
+    if leaf == LAST_LEAF {
+        FIRST_LEAF
+    } else {
+        leaf + 1
+    }
 }
 
 impl Board {
@@ -29,8 +36,8 @@ impl Board {
         requires { ⌜ leaf < 16 ⌝ }
         ensures { λ r. ⌜ r ≡ holdsWired (state (now (self .entry)) .words) leaf ⌝ }
     {
-        for index in 0..512 {
-            if is_wired(self.word(512 * leaf + index)) {
+        for index in 0..TABLE {
+            if is_wired(self.word(TABLE * leaf + index)) {
                 return true;
             }
         }
@@ -45,7 +52,7 @@ impl Board {
         ensures high { λ r. ⌜ r ≤ 15 ⌝ }
     {
         let mut leaf = self.next;
-        for _step in 1..LEAF_COUNT {
+        for _step in FIRST_LEAF..LAST_LEAF {
             if !self.holds_wired(leaf) {
                 return leaf;
             }
@@ -59,7 +66,7 @@ impl Board {
         requires { ⌜ leaf < 16 ⌝ }
         ensures { λ _. ⌜ state (now (self .exit)) ≡ emptied (state (now (self .entry))) (inLeaf leaf) ⌝ }
     {
-        for at in 512 * leaf..512 * leaf + 512 {
+        for at in TABLE * leaf..TABLE * leaf + TABLE {
             self.forget(at);
         }
     }
@@ -100,6 +107,9 @@ impl Board {
     {
         self.forget_leaf(leaf);
         self.unlink(leaf);
-        self.link(leaf, 512 * (2 + usize::from(space)) + page as usize / 512);
+        self.link(
+            leaf,
+            TABLE * (FIRST_DIRECTORY + usize::from(space)) + page as usize / TABLE,
+        );
     }
 }

@@ -5,7 +5,10 @@ ghost use Rattle.x86.specs.State.{startWord, wiped, marksOff, started};
 ghost use Rattle.x86.specs.Reads.{state};
 ghost use Rattle.x86.specs.Making.{Made};
 use super::Board;
+use super::FIRST_DIRECTORY;
+use super::FIRST_LEAF;
 use super::FRAMES;
+use super::TABLE;
 use super::WORDS;
 use crate::word::pointer;
 use refusal::file::FileRefusal;
@@ -25,8 +28,8 @@ fn start_word(at: usize) -> u64
 {
     if at == 0 {
         pointer(1)
-    } else if 512 <= at && at < 516 {
-        pointer(at - 510)
+    } else if TABLE <= at && at < TABLE + 4 {
+        pointer(at - TABLE + FIRST_DIRECTORY)
     } else {
         0
     }
@@ -57,7 +60,7 @@ impl Board {
     {
         self.start_words();
         self.clear_marks();
-        self.next = 6;
+        self.next = FIRST_LEAF;
     }
 
     // A board over the given table memory, cleared. Memory of another length is refused and comes back as it was.
@@ -73,7 +76,7 @@ impl Board {
         let mut board = Board {
             words,
             marks,
-            next: 6,
+            next: FIRST_LEAF,
         };
         board.clear();
         Ok(board)

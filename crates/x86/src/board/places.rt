@@ -7,6 +7,7 @@ ghost use Rattle.x86.specs.Walks.{linear, walk};
 ghost use Rattle.x86.specs.State.{wordAt, written, rewritten, foundIn, found as foundAt, removed, rewrittenAt, hit, accessAnswer, accessed, taken, freeLeaf, leafAt, installed};
 ghost use Rattle.x86.specs.Reads.{state};
 use super::Board;
+use super::TABLE;
 use crate::walk::Walk;
 use crate::walk::linear_page;
 use crate::walk::walk_tables;
@@ -110,7 +111,7 @@ impl Board {
     {
         let leaf = self.free_leaf();
         self.take_leaf(leaf, space, page);
-        self.put_word(512 * leaf + page as usize % 512, word);
+        self.put_word(TABLE * leaf + page as usize % TABLE, word);
     }
 
     // Writes the word of a place, whose old word or whose leaf's old words are first forgotten.

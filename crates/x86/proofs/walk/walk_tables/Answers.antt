@@ -1,5 +1,4 @@
-use mathlib.Core.Path.{_≡_, sym, _∙_}
-use borrow.Author.Needs.{needs}
+use mathlib.Core.Path.{sym, _∙_}
 use Rattle.x86.proofs.Steps.{walk-no-root, walk-no-entry, walk-no-leaf, walk-leaf}
 use Rattle.x86.proofs.walk.walk_tables.Needs as need
 

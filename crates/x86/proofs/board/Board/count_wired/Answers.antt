@@ -1,6 +1,6 @@
 use native.Mathlib.Omega.{arith}
-use mathlib.Core.Path.{_≡_, refl, sym, ap, _∙_}
-use Prim.Native.Nat.{_+_, _≤_}
+use mathlib.Core.Path.{_≡_, sym, ap, _∙_}
+use Prim.Native.Nat.{_+_}
 use lib.Dec.{leb}
 use mathlib.Core.Bool.{_&&_}
 use Rattle.std.proofs.shelf.Tests.{le-leb, lt-leb, and-left}

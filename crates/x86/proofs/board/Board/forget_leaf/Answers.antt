@@ -1,7 +1,6 @@
 use native.Mathlib.Omega.{arith}
-use mathlib.Core.Path.{refl}
 use mathlib.Core.Bool.{true}
-use Prim.Native.Nat.{_+_, _*_}
+use Prim.Native.Nat.{_*_}
 use Rattle.x86.specs.State.{inLeaf}
 use Rattle.x86.specs.Reads.{state}
 use Rattle.x86.proofs.Sweeps.{upTo, emptying-none, emptying-same, emptying-step, emptying-all, up-to-none, up-to-all}

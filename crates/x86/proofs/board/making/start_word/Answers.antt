@@ -6,10 +6,10 @@ pub returns-then-at-eq0 : need.returns-then-at-eq0
 unfolding startWord
 returns-then-at-eq0 c = search needs
 
-pub returns-then-at-lt516 : need.returns-then-at-lt516
+pub returns-then-at : need.returns-then-at
 unfolding startWord
-returns-then-at-lt516 c = search needs
+returns-then-at c = search needs
 
-pub returns-else-at-ge512 : need.returns-else-at-ge512
+pub returns-else-at-ge-TABLE : need.returns-else-at-ge-TABLE
 unfolding startWord
-returns-else-at-ge512 c = search needs
+returns-else-at-ge-TABLE c = search needs
