@@ -1,17 +1,25 @@
 // The mapping on the PowerPC board.
-use crate::outcome::Outcome;
+ghost use Rattle.powerpc.specs.State.{state};
+ghost use Rattle.powerpc_pmap.specs.Kept.{Kept};
 use crate::request::Request;
+use crate::steps::show_crowd;
+use crate::steps::show_modified;
+use crate::steps::touch;
 use crate::stop::Stop;
 use crate::stop::StopFromAlloc;
 use crate::stop::StopFromIo;
 use crate::stop::StopFromPmap;
-use pmap::access::Access;
+use crowd::crowd::crowd;
+use crowd::outcome::Outcome;
+use pmap::interface::Pmap;
 use pmap::range::PAGES;
-use powerpc::board::Board;
 use powerpc::board::WORDS;
 use powerpc::places::Indices;
 use powerpc::places::indices_of;
+use powerpc_pmap::hashed::Hashed;
+use powerpc_pmap::hashed::HashedPmap;
 use refusal::pmap::PmapRefusal;
+use std::alloc::Global;
 use std::io;
 
 const GROUPS: usize = 1024;
@@ -55,25 +63,14 @@ fn show_entry(rt: &LibcRuntime, words: &[u32], group: usize, first: u32) -> io::
 }
 
 // Prints the entry of the place, or that neither group has one.
-fn show_words(rt: &LibcRuntime, board: &Board, indices: Indices) -> io::Result<()> {
-    if show_entry(rt, board.words(), indices.primary, indices.first)? {
+fn show_words(rt: &LibcRuntime, words: &[u32], indices: Indices) -> io::Result<()> {
+    if show_entry(rt, words, indices.primary, indices.first)? {
         return Ok(());
     }
-    if show_entry(rt, board.words(), indices.secondary, indices.alternate)? {
+    if show_entry(rt, words, indices.secondary, indices.alternate)? {
         return Ok(());
     }
     println!(rt, "  neither group has an entry")
-}
-
-// A read or a write at the place, and the words after it.
-fn touch(rt: &LibcRuntime, board: &mut Board, request: Request, write: bool) -> Result<(), Stop> {
-    let name = if write { "write" } else { "read" };
-    match board.access(request.space, request.page, write)? {
-        Access::Hit(frame) => println!(rt, "  {name}: hit, frame {frame}")?,
-        Access::Miss => println!(rt, "  {name}: miss")?,
-    }
-    show_words(rt, board, indices_of(request.space, request.page)?)?;
-    Ok(())
 }
 
 // Whether another page of the space has the groups of the place.
@@ -81,61 +78,50 @@ fn shares_groups(request: Request, other: u32, primary: usize) -> Result<bool, P
     Ok(other != request.page && indices_of(request.space, other)?.primary == primary)
 }
 
-// Enters pages of the same groups until the place is forgotten, and answers how many that took.
-fn crowd(board: &mut Board, request: Request, primary: usize) -> Result<u32, PmapRefusal> {
-    let mut others = 0;
+// All other pages of the space with the groups of the place.
+fn others(heap: Global, request: Request, primary: usize) -> Result<Vec<u32>, Stop> {
+    let mut pages = Vec::new(heap);
     for other in 0..PAGES {
-        if shares_groups(request, other, primary)? {
-            board.enter(request.space, other, request.frame ^ 1, 1, false)?;
-            others += 1;
-            if board.find(request.space, request.page)?.is_none() {
-                break;
-            }
+        if shares_groups(request, other, primary)? && pages.push(other).is_err() {
+            return Err(Stop::Memory);
         }
     }
-    Ok(others)
+    Ok(pages)
 }
 
-fn show_crowd(
+// Enters the mapping, reads and writes, with the words after each step.
+fn use_mapping(
     rt: &LibcRuntime,
-    board: &mut Board,
+    pmap: &mut Hashed,
     request: Request,
     indices: Indices,
-) -> Result<Outcome, Stop> {
-    let others = crowd(board, request, indices.primary)?;
-    let forgotten = board.find(request.space, request.page)?.is_none();
-    let modified = board.modified(request.frame)?;
-    let frame = request.frame;
-    println!(
-        rt,
-        "  crowd: {others} pages of the same groups; forgotten: {forgotten}"
-    )?;
-    show_words(rt, board, indices)?;
-    println!(rt, "  frame {frame} modified: {modified}")?;
-    Ok(Outcome {
-        forgotten,
-        modified,
-    })
+) -> Result<(), Stop>
+    requires { ⌜ Kept (state (now pmap .board)) ⌝ }
+    ensures { λ _. ⌜ Kept (state (now (pmap .exit) .board)) ⌝ }
+{
+    pmap.enter(request.space, request.page, request.frame, request.protection, false)?;
+    show_indices(rt, indices)?;
+    println!(rt, "  enter")?;
+    show_words(rt, pmap.board.words(), indices)?;
+    touch(rt, pmap, request, false)?;
+    show_words(rt, pmap.board.words(), indices)?;
+    touch(rt, pmap, request, true)?;
+    show_words(rt, pmap.board.words(), indices)?;
+    Ok(())
 }
 
-// Enters the mapping, reads, writes and crowds it out, with the words after each step.
+// The mapping in use, and then in a crowd.
 pub fn show(rt: &LibcRuntime, request: Request) -> Result<Outcome, Stop> {
     let heap = rt.alloc();
-    let Ok(mut board) = Board::new(heap, vec![in heap; 0; WORDS]?) else {
+    let Ok(mut pmap) = Hashed::new(heap, vec![in heap; 0; WORDS]?) else {
         return Err(Stop::Memory);
     };
     let indices = indices_of(request.space, request.page)?;
-    board.enter(
-        request.space,
-        request.page,
-        request.frame,
-        request.protection,
-        false,
-    )?;
-    show_indices(rt, indices)?;
-    println!(rt, "  enter")?;
-    show_words(rt, &board, indices)?;
-    touch(rt, &mut board, request, false)?;
-    touch(rt, &mut board, request, true)?;
-    show_crowd(rt, &mut board, request, indices)
+    use_mapping(rt, &mut pmap, request, indices)?;
+    let pages = others(heap, request, indices.primary)?;
+    let outcome = crowd(&mut pmap, request.space, request.page, request.frame, &pages)?;
+    show_crowd(rt, outcome, "pages of the same groups")?;
+    show_words(rt, pmap.board.words(), indices)?;
+    show_modified(rt, outcome, request.frame)?;
+    Ok(outcome)
 }

@@ -1,11 +1,11 @@
 // Shows one mapping on both boards: where it stands in the tables, what a read and a write leave in the words, and that a
 // crowd of other pages drives it out while its frame stays modified.
-use crate::outcome::Outcome;
 use crate::request::Request;
 use crate::stop::Stop;
 use crate::stop::StopFromAlloc;
 use crate::stop::StopFromIo;
 use crate::stop::StopFromPmap;
+use crowd::outcome::Outcome;
 use refusal::code::LayerDisplay;
 use refusal::code::Refusal;
 use refusal::pmap::PmapRefusal;
@@ -13,9 +13,9 @@ use refusal::pmap::PmapRefusalCode;
 use std::io;
 
 mod hashed;
-mod outcome;
 mod radix;
 mod request;
+mod steps;
 mod stop;
 
 // The request on the first line of standard input; what is no text is refused as bad numbers are.

@@ -1,18 +1,26 @@
 // The mapping on the x86-64 board.
-use crate::outcome::Outcome;
+ghost use Rattle.x86.specs.Reads.{state};
+ghost use Rattle.x86_pmap.specs.Kept.{Kept};
 use crate::request::Request;
+use crate::steps::show_crowd;
+use crate::steps::show_modified;
+use crate::steps::touch;
 use crate::stop::Stop;
 use crate::stop::StopFromAlloc;
 use crate::stop::StopFromIo;
 use crate::stop::StopFromPmap;
-use pmap::access::Access;
+use crowd::crowd::crowd;
+use crowd::outcome::Outcome;
+use pmap::interface::Pmap;
 use pmap::range::PAGES;
-use refusal::pmap::PmapRefusal;
+use std::alloc::AllocError;
+use std::alloc::Global;
 use std::io;
-use x86::board::Board;
 use x86::board::WORDS;
 use x86::walk::linear_page;
 use x86::walk::walk_tables;
+use x86_pmap::meaning::X86;
+use x86_pmap::meaning::X86Pmap;
 
 // The pages that a directory word covers.
 const COVER: u32 = 512;
@@ -22,8 +30,8 @@ fn word(words: &[u64], at: usize) -> u64 {
 }
 
 // Prints where the walk for the place goes, or that it comes to no leaf.
-fn show_indices(rt: &LibcRuntime, board: &Board, request: Request) -> io::Result<()> {
-    let Some(walk) = walk_tables(board.words(), linear_page(request.space, request.page)) else {
+fn show_indices(rt: &LibcRuntime, words: &[u64], request: Request) -> io::Result<()> {
+    let Some(walk) = walk_tables(words, linear_page(request.space, request.page)) else {
         return println!(rt, "x86-64: no leaf");
     };
     let directory = walk.directory % 512;
@@ -36,8 +44,7 @@ fn show_indices(rt: &LibcRuntime, board: &Board, request: Request) -> io::Result
 }
 
 // Prints the words that the walk for the place meets.
-fn show_words(rt: &LibcRuntime, board: &Board, request: Request) -> io::Result<()> {
-    let words = board.words();
+fn show_words(rt: &LibcRuntime, words: &[u64], request: Request) -> io::Result<()> {
     let Some(walk) = walk_tables(words, linear_page(request.space, request.page)) else {
         return println!(rt, "  the walk comes to no leaf");
     };
@@ -51,72 +58,44 @@ fn show_words(rt: &LibcRuntime, board: &Board, request: Request) -> io::Result<(
     )
 }
 
-// A read or a write at the place, and the words after it.
-fn touch(rt: &LibcRuntime, board: &mut Board, request: Request, write: bool) -> Result<(), Stop> {
-    let name = if write { "write" } else { "read" };
-    match board.access(request.space, request.page, write)? {
-        Access::Hit(frame) => println!(rt, "  {name}: hit, frame {frame}")?,
-        Access::Miss => println!(rt, "  {name}: miss")?,
+// The first pages of all directory indices but the page's own.
+fn others(heap: Global, page: u32) -> Result<Vec<u32>, AllocError> {
+    let mut pages = Vec::new(heap);
+    for directory in 0..PAGES / COVER {
+        if directory != page / COVER {
+            pages.push(directory * COVER)?;
+        }
     }
-    show_words(rt, board, request)?;
+    Ok(pages)
+}
+
+// Enters the mapping, reads and writes, with the words after each step.
+fn use_mapping(rt: &LibcRuntime, pmap: &mut X86, request: Request) -> Result<(), Stop>
+    requires { ⌜ Kept (state (now pmap .board)) ⌝ }
+    ensures { λ _. ⌜ Kept (state (now (pmap .exit) .board)) ⌝ }
+{
+    pmap.enter(request.space, request.page, request.frame, request.protection, false)?;
+    show_indices(rt, pmap.words(), request)?;
+    println!(rt, "  enter")?;
+    show_words(rt, pmap.words(), request)?;
+    touch(rt, pmap, request, false)?;
+    show_words(rt, pmap.words(), request)?;
+    touch(rt, pmap, request, true)?;
+    show_words(rt, pmap.words(), request)?;
     Ok(())
 }
 
-// Enters pages of other directory indices until the place is forgotten, and answers how many that took.
-fn crowd(board: &mut Board, request: Request) -> Result<u32, PmapRefusal> {
-    let mut others = 0;
-    for directory in 0..PAGES / COVER {
-        if board.find(request.space, request.page)?.is_none() {
-            break;
-        }
-        if directory != request.page / COVER {
-            board.enter(
-                request.space,
-                directory * COVER,
-                request.frame ^ 1,
-                1,
-                false,
-            )?;
-            others += 1;
-        }
-    }
-    Ok(others)
-}
-
-fn show_crowd(rt: &LibcRuntime, board: &mut Board, request: Request) -> Result<Outcome, Stop> {
-    let others = crowd(board, request)?;
-    let forgotten = board.find(request.space, request.page)?.is_none();
-    let modified = board.modified(request.frame)?;
-    let frame = request.frame;
-    println!(
-        rt,
-        "  crowd: {others} pages of other directory indices; forgotten: {forgotten}"
-    )?;
-    show_words(rt, board, request)?;
-    println!(rt, "  frame {frame} modified: {modified}")?;
-    Ok(Outcome {
-        forgotten,
-        modified,
-    })
-}
-
-// Enters the mapping, reads, writes and crowds it out, with the words after each step.
+// The mapping in use, and then in a crowd.
 pub fn show(rt: &LibcRuntime, request: Request) -> Result<Outcome, Stop> {
     let heap = rt.alloc();
-    let Ok(mut board) = Board::new(heap, vec![in heap; 0; WORDS]?) else {
+    let Ok(mut pmap) = X86::new(heap, vec![in heap; 0; WORDS]?) else {
         return Err(Stop::Memory);
     };
-    board.enter(
-        request.space,
-        request.page,
-        request.frame,
-        request.protection,
-        false,
-    )?;
-    show_indices(rt, &board, request)?;
-    println!(rt, "  enter")?;
-    show_words(rt, &board, request)?;
-    touch(rt, &mut board, request, false)?;
-    touch(rt, &mut board, request, true)?;
-    show_crowd(rt, &mut board, request)
+    use_mapping(rt, &mut pmap, request)?;
+    let pages = others(heap, request.page)?;
+    let outcome = crowd(&mut pmap, request.space, request.page, request.frame, &pages)?;
+    show_crowd(rt, outcome, "pages of other directory indices")?;
+    show_words(rt, pmap.words(), request)?;
+    show_modified(rt, outcome, request.frame)?;
+    Ok(outcome)
 }
