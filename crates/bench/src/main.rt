@@ -1,10 +1,12 @@
 // Prints how many calls of access, enter and drop a second each board takes.
-use crate::timed::HashedTimed;
-use crate::timed::RadixTimed;
+use crate::timing::show;
+use powerpc_pmap::hashed::Hashed;
+use powerpc_pmap::hashed::HashedPmap;
 use std::env;
 use std::error::AnyError;
+use x86_pmap::meaning::X86;
+use x86_pmap::meaning::X86Pmap;
 
-mod timed;
 mod timing;
 
 // The number of calls that the first argument gives.
@@ -21,15 +23,14 @@ fn run(rt: &LibcRuntime) -> Result<(), AnyError> {
         return Ok(());
     };
     let heap = rt.alloc();
-    let Ok(mut radix) = x86::board::Board::new(heap, vec![in heap; 0; x86::board::WORDS]?) else {
+    let Ok(mut radix) = X86::new(heap, vec![in heap; 0; x86::board::WORDS]?) else {
         return Err("no memory for the x86-64 board".into());
     };
-    let Ok(mut hashed) = powerpc::board::Board::new(heap, vec![in heap; 0; powerpc::board::WORDS]?)
-    else {
+    show(rt, "x86-64", &mut radix, calls)?;
+    let Ok(mut hashed) = Hashed::new(heap, vec![in heap; 0; powerpc::board::WORDS]?) else {
         return Err("no memory for the PowerPC board".into());
     };
-    timing::show(rt, "x86-64", &mut radix, calls)?;
-    timing::show(rt, "PowerPC", &mut hashed, calls)
+    show(rt, "PowerPC", &mut hashed, calls)
 }
 
 fn main(rt: LibcRuntime) -> Result<(), AnyError> {

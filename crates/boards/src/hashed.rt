@@ -99,7 +99,13 @@ fn use_mapping(
     requires { ⌜ Kept (state (now pmap .board)) ⌝ }
     ensures { λ _. ⌜ Kept (state (now (pmap .exit) .board)) ⌝ }
 {
-    pmap.enter(request.space, request.page, request.frame, request.protection, false)?;
+    pmap.enter(
+        request.space,
+        request.page,
+        request.frame,
+        request.protection,
+        false,
+    )?;
     show_indices(rt, indices)?;
     println!(rt, "  enter")?;
     show_words(rt, pmap.board.words(), indices)?;
@@ -119,7 +125,13 @@ pub fn show(rt: &LibcRuntime, request: Request) -> Result<Outcome, Stop> {
     let indices = indices_of(request.space, request.page)?;
     use_mapping(rt, &mut pmap, request, indices)?;
     let pages = others(heap, request, indices.primary)?;
-    let outcome = crowd(&mut pmap, request.space, request.page, request.frame, &pages)?;
+    let outcome = crowd(
+        &mut pmap,
+        request.space,
+        request.page,
+        request.frame,
+        &pages,
+    )?;
     show_crowd(rt, outcome, "pages of the same groups")?;
     show_words(rt, pmap.board.words(), indices)?;
     show_modified(rt, outcome, request.frame)?;

@@ -74,7 +74,13 @@ fn use_mapping(rt: &LibcRuntime, pmap: &mut X86, request: Request) -> Result<(),
     requires { ⌜ Kept (state (now pmap .board)) ⌝ }
     ensures { λ _. ⌜ Kept (state (now (pmap .exit) .board)) ⌝ }
 {
-    pmap.enter(request.space, request.page, request.frame, request.protection, false)?;
+    pmap.enter(
+        request.space,
+        request.page,
+        request.frame,
+        request.protection,
+        false,
+    )?;
     show_indices(rt, pmap.words(), request)?;
     println!(rt, "  enter")?;
     show_words(rt, pmap.words(), request)?;
@@ -93,7 +99,13 @@ pub fn show(rt: &LibcRuntime, request: Request) -> Result<Outcome, Stop> {
     };
     use_mapping(rt, &mut pmap, request)?;
     let pages = others(heap, request.page)?;
-    let outcome = crowd(&mut pmap, request.space, request.page, request.frame, &pages)?;
+    let outcome = crowd(
+        &mut pmap,
+        request.space,
+        request.page,
+        request.frame,
+        &pages,
+    )?;
     show_crowd(rt, outcome, "pages of other directory indices")?;
     show_words(rt, pmap.words(), request)?;
     show_modified(rt, outcome, request.frame)?;
