@@ -45,9 +45,11 @@ resident-counts s x = by (lie s x)
     out : (o : Option ℕ) → replaced s x o .counts ≡ s .counts
     out None = refl
     out (Some f) = refl
+
     new : (b : Bool) → cond b (load s x (length (s .queue))) (replaced s x (victim s)) .counts ≡ s .counts
     new true = refl
     new false = out (victim s)
+
     by : (o : Option ℕ) → residentBy s x o .counts ≡ s .counts
     by None = new (unused s)
     by (Some f) = refl
@@ -73,23 +75,28 @@ match-brought h s x good low fits = by (lie s x) refl
       where
         k : ℕ → ℕ → Option Mapping
         k c d = droppedBy (Some f) (h c d)
+
         used : any (eqb f) (s .queue) ≡ true
         used = first-has (free (s .wired)) (s .queue) f e
+
         other : x ≡ owner s f → ⊥
         other q = none-some (sym absent ∙ ap (lie s) q ∙ good .owner-lies f used)
+
         gone : Matches k (s .regions) (evict s f .lies) (s .wired)
         gone = match-evict h k (s .regions) (s .lies) (s .wired) fits f (owner s f)
-          (let low = owner-low s f good used in omega (arith, low, good .lies-long))
-          (λ y q. sym (good .lies-owned y f q)) (good .owner-lies f used)
-          (not-from (any (onFrame f) (s .wired)) (first-passes (free (s .wired)) (s .queue) f e))
-          (λ c d. refl)
+            (let low = owner-low s f good used in omega (arith, low, good .lies-long))
+            (λ y q. sym (good .lies-owned y f q)) (good .owner-lies f used)
+            (not-from (any (onFrame f) (s .wired)) (first-passes (free (s .wired)) (s .queue) f e))
+            (λ c d. refl)
           where
             not-from : (b : Bool) → not b ≡ true → b ≡ false
             not-from true q = absurd (both-ways false refl q)
             not-from false q = refl
+
     new : lie s x ≡ None → (b : Bool) → Fits (λ c d. droppedBy (cond b None (victim s)) (h c d)) (cond b (load s x (length (s .queue))) (replaced s x (victim s)))
     new absent true = match-load h h (s .regions) (s .lies) (s .wired) fits x (length (s .queue)) absent
     new absent false = out absent (victim s) refl
+
     by : (o : Option ℕ) → lie s x ≡ o → Fits (λ c d. droppedBy (evictee s o) (h c d)) (residentBy s x o)
     by None e = new e (unused s)
     by (Some f) e = fits
@@ -99,10 +106,11 @@ wired-held : (v : View) (s : State) (a p : ℕ) → Fits (v .held) s → any (is
 wired-held v s a p fits listed =
     let x = first-some (isPlace a p) (s .wired) listed in
     let held = first-all-of (isPlace a p) (HeldWired (v .held) (s .regions)) (s .wired) (x .0) (fits .wired) (x .1) in
-    let same = place-test a p (x .0) (first-passes (isPlace a p) (s .wired) (x .0) (x .1)) in
-    ( held .region
-    , ap (λ z. cover (s .regions) z p) (sym (same .0)) ∙ ap (cover (s .regions) (x .0 .space)) (sym (same .1)) ∙ held .covers
-    , (x .0 .frame, ap (λ z. v .held z p) (sym (same .0)) ∙ ap (v .held (x .0 .space)) (sym (same .1)) ∙ held .holds) )
+    let same = place-test a p (x .0) (first-passes (isPlace a p) (s .wired) (x .0) (x .1)) in (
+      held .region,
+      ap (λ z. cover (s .regions) z p) (sym (same .0)) ∙ ap (cover (s .regions) (x .0 .space)) (sym (same .1)) ∙ held .covers,
+      (x .0 .frame, ap (λ z. v .held z p) (sym (same .0)) ∙ ap (v .held (x .0 .space)) (sym (same .1)) ∙ held .holds),
+    )
 
 reads-wired : (v : View) (s : State) (a p : ℕ) → Fits (v .held) s → any (isPlace a p) (s .wired) ≡ true → serves (v .held a p) false ≡ true
 reads-wired v s a p fits listed = let x = wired-held v s a p fits listed in ap (λ z. serves z false) (x .2 .1)
@@ -137,30 +145,30 @@ module _ (v w : View) (s : State) (ready : Ready v s) (a p : ℕ) (r : Reaches s
   touched : (write : Bool) → (any (isPlace a p) (s .wired) ≡ true → serves (v .held a p) write ≡ true) → Touches v w s a p (serves (v .held a p) write) → Fits (w .held) (resident s (pageAt s a p))
   unfolding b
   touched write wired-hits leaves = ⊎-elim
-    (λ (hit : serves (v .held a p) write ≡ true).
+      (λ (hit : serves (v .held a p) write ≡ true).
       let f = subst (Touches v w s a p) hit leaves in
       let lies = hit-lies v s a p write (ready .fits) hit in
       subst (Fits (w .held)) (sym (ap (residentBy s (pageAt s a p)) (lies .1)))
-        (match-stays (v .held) (w .held) (s .regions) (s .lies) (s .wired) (ready .fits) (f .others)))
-    (λ (miss : serves (v .held a p) write ≡ false).
+      (match-stays (v .held) (w .held) (s .regions) (s .lies) (s .wired) (ready .fits) (f .others)))
+      (λ (miss : serves (v .held a p) write ≡ false).
       let e = subst (Touches v w s a p) miss leaves in
       let t = resident s (pageAt s a p) in
       let not-wired : any (isPlace a p) (s .wired) ≡ false = ⊎-elim (λ y. absurd (both-ways _ miss (wired-hits y))) (λ n. n) (cases-bool (any (isPlace a p) (s .wired))) in
       match-enter (λ c d. droppedBy (evictee s (lie s (pageAt s a p))) (v .held c d)) (w .held) (t .regions) (t .lies) (t .wired)
-        (match-brought (v .held) s (pageAt s a p) (ready .good) (r .low) (ready .fits)) a p (b .frame) (r .region)
-        (ap (λ z. cover z a p) (b .regions) ∙ r .found) (ap (lie t) (sym (r .page)) ∙ b .lies)
-        (ap (any (isPlace a p)) (b .wired) ∙ not-wired) (e .here ∙ entered-is false) (e .others))
-    (cases-bool (serves (v .held a p) write))
+      (match-brought (v .held) s (pageAt s a p) (ready .good) (r .low) (ready .fits)) a p (b .frame) (r .region)
+      (ap (λ z. cover z a p) (b .regions) ∙ r .found) (ap (lie t) (sym (r .page)) ∙ b .lies)
+      (ap (any (isPlace a p)) (b .wired) ∙ not-wired) (e .here ∙ entered-is false) (e .others))
+      (cases-bool (serves (v .held a p) write))
 
   wired-fits : any (isPlace a p) (s .wired) ≡ false → Enters v w s a p true → Fits (w .held) (wiredAt s a p (pageAt s a p))
   unfolding b
   wired-fits new e =
       let t = resident s (pageAt s a p) in
       subst (λ z. Fits (w .held) (wiredTo t a p z)) (sym (b .lies))
-        (match-wire (λ c d. droppedBy (evictee s (lie s (pageAt s a p))) (v .held c d)) (w .held) (t .regions) (t .lies) (t .wired)
-          (match-brought (v .held) s (pageAt s a p) (ready .good) (r .low) (ready .fits)) a p (b .frame) (r .region)
-          (ap (λ z. cover z a p) (b .regions) ∙ r .found) (ap (lie t) (sym (r .page)) ∙ b .lies)
-          (ap (any (isPlace a p)) (b .wired) ∙ new) (e .here ∙ entered-is true) (e .others))
+      (match-wire (λ c d. droppedBy (evictee s (lie s (pageAt s a p))) (v .held c d)) (w .held) (t .regions) (t .lies) (t .wired)
+      (match-brought (v .held) s (pageAt s a p) (ready .good) (r .low) (ready .fits)) a p (b .frame) (r .region)
+      (ap (λ z. cover z a p) (b .regions) ∙ r .found) (ap (lie t) (sym (r .page)) ∙ b .lies)
+      (ap (any (isPlace a p)) (b .wired) ∙ new) (e .here ∙ entered-is true) (e .others))
 
   written-fits : (word : ℕ) → Fits (w .held) (resident s (pageAt s a p)) → Fits (w .held) (written s (pageAt s a p) word)
   unfolding b
@@ -175,17 +183,17 @@ module _ (v w : View) (s t : State) (ready : Ready v s) (r : Reply) where
   pub ready-write : (a p word : ℕ) → Serves v w s t (Write a p word) r → Ready w t
   ready-write a p word = ready-by v w s t (Write a p word) ready r
       (λ is leaves.
-        let reached = write-passed s a p word (ready .good) is in
-        written-fits v w s ready a p reached word
-          (touched v w s ready a p reached true (λ y. writes-wired v s a p word (ready .good) (ready .fits) is y) leaves))
+      let reached = write-passed s a p word (ready .good) is in
+      written-fits v w s ready a p reached word
+      (touched v w s ready a p reached true (λ y. writes-wired v s a p word (ready .good) (ready .fits) is y) leaves))
       (written-counts (resident s (pageAt s a p)) word (lie (resident s (pageAt s a p)) (pageAt s a p)) ∙ resident-counts s (pageAt s a p))
 
   pub ready-wire : (a p : ℕ) → Serves v w s t (Wire a p) r → Ready w t
   ready-wire a p = ready-by v w s t (Wire a p) ready r
       (λ is leaves.
-        let reached = wire-passed s a p (ready .good) is .0 in
-        let at : wireRefusal s a p (Some (reached .region)) ≡ None = ap (wireRefusal s a p) (sym (reached .found)) ∙ refuse-none (not (fitsPlace a p)) Range (wireRefusal s a p (cover (s .regions) a p)) is .1 in
-        wired-fits v w s ready a p reached (refuse-none (any (isPlace a p) (s .wired)) WiredRefusal _ at .0) leaves)
+      let reached = wire-passed s a p (ready .good) is .0 in
+      let at : wireRefusal s a p (Some (reached .region)) ≡ None = ap (wireRefusal s a p) (sym (reached .found)) ∙ refuse-none (not (fitsPlace a p)) Range (wireRefusal s a p (cover (s .regions) a p)) is .1 in
+      wired-fits v w s ready a p reached (refuse-none (any (isPlace a p) (s .wired)) WiredRefusal _ at .0) leaves)
       (wired-counts (resident s (pageAt s a p)) a p (lie (resident s (pageAt s a p)) (pageAt s a p)) ∙ resident-counts s (pageAt s a p))
 
 -- what the pmap says of a call is what it may say
@@ -194,11 +202,13 @@ may-say v s (Map a p count object offset q) ready = tt
 may-say v s (Unmap a p) ready = tt
 may-say v s (Protect a p q) ready = tt
 may-say v s (Read a p) ready = record {
-    lies = λ hit. ap isSome (hit-lies v s a p false (ready .fits) hit .1);
-    holds = λ passes listed. reads-wired v s a p (ready .fits) listed }
+  lies = λ hit. ap isSome (hit-lies v s a p false (ready .fits) hit .1);
+  holds = λ passes listed. reads-wired v s a p (ready .fits) listed;
+}
 may-say v s (Write a p w) ready = record {
-    lies = λ hit. ap isSome (hit-lies v s a p true (ready .fits) hit .1);
-    holds = λ passes listed. writes-wired v s a p w (ready .good) (ready .fits) (not-limited s (Write a p w) passes) listed }
+  lies = λ hit. ap isSome (hit-lies v s a p true (ready .fits) hit .1);
+  holds = λ passes listed. writes-wired v s a p w (ready .good) (ready .fits) (not-limited s (Write a p w) passes) listed;
+}
 may-say v s (Wire a p) ready = tt
 may-say v s (Unwire a p) ready = tt
 may-say v s (Sync o) ready = tt

@@ -61,12 +61,13 @@ module _ (v w : View) (s t : State) (a p : ℕ) where
       let base = accepted v w s t (Read a p) passes same (r .view) in
       record {
         answer =
-          ap (λ z. Ok (ReadAnswer (record { report = z; word = word }))) (r .reported)
-          ∙ ap (λ z. Ok (ReadAnswer (record { report = reportOf s x (serves (v .held a p) false); word = z })))
-              (is ∙ ap (λ z. getD (z .words) f 0) same ∙ sym (ap (wordIn (resident s x)) (r .lies)))
-          ∙ base .answer;
+            ap (λ z. Ok (ReadAnswer (record { report = z; word = word }))) (r .reported)
+            ∙ ap (λ z. Ok (ReadAnswer (record { report = reportOf s x (serves (v .held a p) false); word = z })))
+            (is ∙ ap (λ z. getD (z .words) f 0) same ∙ sym (ap (wordIn (resident s x)) (r .lies)))
+            ∙ base .answer;
         state = base .state;
-        view = base .view }
+        view = base .view;
+      }
 
   pub write-served : (u : State) (f word : ℕ) (report : Report) → callRefusal s (Write a p word) ≡ None → Reaches v w s t a p true f report → u ≡ wordWritten t f word → Serves v w s u (Write a p word) (Ok (Wrote report))
   write-served u f word report passes r is =
@@ -77,9 +78,10 @@ module _ (v w : View) (s t : State) (a p : ℕ) where
 -- a refused call that moved nothing
 pub refused-unmoved : (v w : View) (s t : State) (c : Call) (e : MemoryRefusal) → callRefusal s c ≡ Some e → Unmoved v w s t → Serves v w s t c (Err e)
 refused-unmoved v w s t c e is un = record {
-    answer = sym (ap (replyBy s c (hits v c)) is);
-    state = un .state ∙ sym (ap (movedBy s c) is);
-    view = subst (Leaves v w s c) (sym is) (un .held) }
+  answer = sym (ap (replyBy s c (hits v c)) is);
+  state = un .state ∙ sym (ap (movedBy s c) is);
+  view = subst (Leaves v w s c) (sym is) (un .held);
+}
 
 -- why a wire is refused
 module _ (s : State) (a p : ℕ) (fits : fitsPlace a p ≡ true) where
@@ -104,21 +106,23 @@ module _ (s : State) (a p : ℕ) (fits : fitsPlace a p ≡ true) where
           let lies : lie (resident s y) y ≡ Some f = ap (λ z. lie (resident s z) z) at ∙ b .lies in
           let passes : callRefusal s (Wire a p) ≡ None = wire-passes few ∙ b .room in
           let base = accepted v w s u (Wire a p) passes
-                (is
-                ∙ ap (λ z. withWired (withDirty t z) (t .wired ++ (record { space = a; page = p; frame = f } ∷ []))) (put .marked ∙ sym dirty)
-                ∙ ap (λ z. withWired z (z .wired ++ (record { space = a; page = p; frame = f } ∷ []))) (b .state ∙ ap (resident s) (sym at))
-                ∙ sym (ap (wiredTo (resident s y) a p) lies))
-                (record {
-                  here = put .here ∙ sym (ap (λ z. mappingFor z (lie (resident s y) y) true) cov ∙ ap (λ z. mappingFor (Some r) z true) lies);
-                  others = λ c d far. subst (λ z. Stays z (w .held c d)) (b .held c d ∙ ap (λ z. droppedBy (evictee s (lie s z)) (v .held c d)) (sym at)) (put .others c d far) }) in
+          (is
+          ∙ ap (λ z. withWired (withDirty t z) (t .wired ++ (record { space = a; page = p; frame = f } ∷ []))) (put .marked ∙ sym dirty)
+          ∙ ap (λ z. withWired z (z .wired ++ (record { space = a; page = p; frame = f } ∷ []))) (b .state ∙ ap (resident s) (sym at))
+          ∙ sym (ap (wiredTo (resident s y) a p) lies))
+          (record {
+            here = put .here ∙ sym (ap (λ z. mappingFor z (lie (resident s y) y) true) cov ∙ ap (λ z. mappingFor (Some r) z true) lies);
+            others = λ c d far. subst (λ z. Stays z (w .held c d)) (b .held c d ∙ ap (λ z. droppedBy (evictee s (lie s z)) (v .held c d)) (sym at)) (put .others c d far);
+          }) in
           record {
             answer =
-              ap (λ z. Ok (Wired (record { loaded = z; evicted = out }))) (b .told ∙ none-not (lie s (pageIn r p)))
-              ∙ ap (λ z. Ok (Wired (record { loaded = not (isSome (lie s (pageIn r p))); evicted = z }))) (b .out)
-              ∙ ap (λ z. Ok (Wired (wiringOf s z))) (sym at)
-              ∙ base .answer;
+                ap (λ z. Ok (Wired (record { loaded = z; evicted = out }))) (b .told ∙ none-not (lie s (pageIn r p)))
+                ∙ ap (λ z. Ok (Wired (record { loaded = not (isSome (lie s (pageIn r p))); evicted = z }))) (b .out)
+                ∙ ap (λ z. Ok (Wired (wiringOf s z))) (sym at)
+                ∙ base .answer;
             state = base .state;
-            view = base .view }
+            view = base .view;
+          }
         where
           none-not : (o : Option ℕ) → isNone o ≡ not (isSome o)
           none-not None = refl
@@ -136,23 +140,29 @@ not-crowded h k rs ls ws a p fits few was c =
   where
     listed : (i : ℕ) → i < 8 → any (isPlace (c .space i) (c .page i)) ws ≡ true
     listed i l = fits .listed (c .space i) (c .page i) (was (c .space i) (c .page i) (c .wired i l))
+
     pick : ℕ → ℕ
     pick i = place-of (place (isPlace (c .space i) (c .page i)) ws)
+
     is : (i : ℕ) (l : i < 8) → place (isPlace (c .space i) (c .page i)) ws ≡ Some (pick i)
     is i l = let q = place-some (isPlace (c .space i) (c .page i)) ws (listed i l) in q .1 ∙ ap Some (sym (ap place-of (q .1)))
+
     inside : (i : ℕ) → i < 8 → pick i < length ws
     inside i l = placed (isPlace (c .space i) (c .page i)) ws (pick i) (is i l) .inside
+
     none-place : WiredPlace
     none-place = record { space = 0; page = 0; frame = 0 }
+
     at : (i : ℕ) (l : i < 8) → (getD ws (pick i) none-place .space ≡ c .space i) × (getD ws (pick i) none-place .page ≡ c .page i)
     at i l = place-test (c .space i) (c .page i) (getD ws (pick i) none-place) (placed (isPlace (c .space i) (c .page i)) ws (pick i) (is i l) .passes none-place)
+
     apart : (i j : ℕ) → i < 8 → j < 8 → pick i ≡ pick j → i ≡ j
     apart i j l m e =
         let x = at i l in
         let y = at j m in
         c .apart i j l m
-          (sym (x .0) ∙ ap (λ z. getD ws z none-place .space) e ∙ y .0)
-          (sym (x .1) ∙ ap (λ z. getD ws z none-place .page) e ∙ y .1)
+        (sym (x .0) ∙ ap (λ z. getD ws z none-place .space) e ∙ y .0)
+        (sym (x .1) ∙ ap (λ z. getD ws z none-place .page) e ∙ y .1)
 
 pub dropped-wired : (o : Option ℕ) (m : Option Mapping) → isWired (droppedBy o m) ≡ true → isWired m ≡ true
 dropped-wired None m e = e

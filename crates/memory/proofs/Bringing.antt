@@ -35,7 +35,8 @@ module _ (v : View) (s : State) (x : ℕ) (good : Good s) where
     lies = ap (λ z. lie (residentBy s x z) x) is ∙ is;
     told = sym (ap isNone is);
     out = sym (ap (evictedBy s) is);
-    held = λ a b. sym (ap (λ z. droppedBy (evictee s z) (v .held a b)) is) }
+    held = λ a b. sym (ap (λ z. droppedBy (evictee s z) (v .held a b)) is);
+  }
 
   module _ (low : x < 2048) (absent : lie s x ≡ None) where
     room-is : hasFrame s ≡ true → wantsFrame s (lie s x) ≡ None
@@ -52,7 +53,8 @@ module _ (v : View) (s : State) (x : ℕ) (good : Good s) where
           lies = ap (λ z. lie z x) end ∙ lie-loaded s x (length (s .queue)) (ready-unused s good room) low absent;
           told = sym (ap isNone absent);
           out = sym (ap (evictedBy s) absent ∙ cond-true _ _ _ yes);
-          held = λ a b. sym (ap (λ z. droppedBy (evictee s z) (v .held a b)) absent ∙ ap (λ z. droppedBy z (v .held a b)) (cond-true _ _ _ yes)) }
+          held = λ a b. sym (ap (λ z. droppedBy (evictee s z) (v .held a b)) absent ∙ ap (λ z. droppedBy z (v .held a b)) (cond-true _ _ _ yes));
+        }
 
     module _ (full : s .frames ≤ length (s .queue)) where
       used-up : unused s ≡ false
@@ -63,7 +65,8 @@ module _ (v : View) (s : State) (x : ℕ) (good : Good s) where
       brings-none nowhere = record {
         told = ap (wantsFrame s) absent ∙ cond-true _ _ _ (ap not (or-from _ _ used-up (nowhere-any (free (s .wired)) (s .queue) nowhere)));
         state = refl;
-        held = λ a b. refl }
+        held = λ a b. refl;
+      }
 
       -- into the frame of the page that goes
       module _ (at : ℕ) (here : place (free (s .wired)) (s .queue) ≡ Some at) where
@@ -95,9 +98,11 @@ module _ (v : View) (s : State) (x : ℕ) (good : Good s) where
               lies = ap (λ z. lie z x) end ∙ lie-loaded (evict s f) x f (ready-evicted s f good victim-used (first-passes (free (s .wired)) (s .queue) f victim-is)) low gone;
               told = sym (ap isNone absent);
               out = evicts .told ∙ sym (ap (evictedBy s) absent ∙ cond-false _ _ _ used-up ∙ ap (replacedPage s) victim-is);
-              held = λ a b. evicts .held a b ∙ sym (ap (λ z. droppedBy (evictee s z) (v .held a b)) absent ∙ ap (λ z. droppedBy z (v .held a b)) (cond-false _ _ _ used-up ∙ victim-is)) }
+              held = λ a b. evicts .held a b ∙ sym (ap (λ z. droppedBy (evictee s z) (v .held a b)) absent ∙ ap (λ z. droppedBy z (v .held a b)) (cond-false _ _ _ used-up ∙ victim-is));
+            }
           where
             other : x ≡ owner s (getD (s .queue) at 0) → ⊥
             other e = let k = sym absent ∙ ap (lie s) e ∙ good .owner-lies (getD (s .queue) at 0) victim-used in let z : _≡_ {A = ℕ} 0 1 = cc in omega arith
+
             gone : lie (evict s (getD (s .queue) at 0)) x ≡ None
             gone = lie-evict s (getD (s .queue) at 0) good victim-used x other ∙ absent

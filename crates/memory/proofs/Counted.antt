@@ -93,14 +93,15 @@ refused-most (Ok a) = omega arith
 
 pub bounded-added : (n : Counts) (r : Reply) → Bounded n → n .calls < 1000000 → storedIn r ≤ 2048 → Bounded (added n r)
 bounded-added n r b less few = record {
-    calls = omega arith;
-    refused = omega (arith, refused-most r);
-    hits = omega (arith, kind-most Hit r);
-    soft = omega (arith, kind-most Soft r);
-    hard = omega (arith, kind-most Hard r);
-    loads = omega (arith, loads-most r);
-    evicted = omega (arith, evictions-most (evictedIn r));
-    stored = omega arith }
+  calls = omega arith;
+  refused = omega (arith, refused-most r);
+  hits = omega (arith, kind-most Hit r);
+  soft = omega (arith, kind-most Soft r);
+  hard = omega (arith, kind-most Hard r);
+  loads = omega (arith, loads-most r);
+  evicted = omega (arith, evictions-most (evictedIn r));
+  stored = omega arith;
+}
 
 -- a call is not refused for too many calls, but by the limit itself
 abbrev limits : Option MemoryRefusal → Bool
@@ -131,13 +132,13 @@ wire-limits : (s : State) (a p : ℕ) (o : Option Region) → limits (wireRefusa
 wire-limits s a p None = refl
 wire-limits s a p (Some r) =
     refuse-limits (any (isPlace a p) (s .wired)) WiredRefusal (refuse (leb 8 (length (s .wired))) WiredFull (wantsFrame s (lie s (pageIn r p)))) refl
-      (refuse-limits (leb 8 (length (s .wired))) WiredFull (wantsFrame s (lie s (pageIn r p))) refl (wants-limits s (lie s (pageIn r p))))
+    (refuse-limits (leb 8 (length (s .wired))) WiredFull (wantsFrame s (lie s (pageIn r p))) refl (wants-limits s (lie s (pageIn r p))))
 
 call-limits : (s : State) (c : Call) → limits (callRefusal s c) ≡ false
 call-limits s (Map a p count object offset q) =
     refuse-limits (not (fitsMap a p count object offset q)) Range (refuse (any (overlaps a p count) (s .regions)) Overlap (refuse (leb 64 (length (s .regions))) RegionsFull None)) refl
-      (refuse-limits (any (overlaps a p count) (s .regions)) Overlap (refuse (leb 64 (length (s .regions))) RegionsFull None) refl
-        (refuse-limits (leb 64 (length (s .regions))) RegionsFull None refl refl))
+    (refuse-limits (any (overlaps a p count) (s .regions)) Overlap (refuse (leb 64 (length (s .regions))) RegionsFull None) refl
+    (refuse-limits (leb 64 (length (s .regions))) RegionsFull None refl refl))
 call-limits s (Unmap a p) = refuse-limits (not (fitsPlace a p)) Range (regionRefusal s (first (begins a p) (s .regions))) refl (region-limits s (first (begins a p) (s .regions)))
 call-limits s (Protect a p q) = refuse-limits (not (fitsPlace a p && fitsProtection q)) Range (regionRefusal s (first (begins a p) (s .regions))) refl (region-limits s (first (begins a p) (s .regions)))
 call-limits s (Read a p) = refuse-limits (not (fitsPlace a p)) Range (readRefusal s p (cover (s .regions) a p)) refl (read-limits s p (cover (s .regions) a p))
@@ -145,7 +146,7 @@ call-limits s (Write a p w) = refuse-limits (not (fitsPlace a p)) Range (writeRe
 call-limits s (Wire a p) = refuse-limits (not (fitsPlace a p)) Range (wireRefusal s a p (cover (s .regions) a p)) refl (wire-limits s a p (cover (s .regions) a p))
 call-limits s (Unwire a p) =
     refuse-limits (not (fitsPlace a p)) Range (refuse (not (any (isPlace a p) (s .wired))) NotWired None) refl
-      (refuse-limits (not (any (isPlace a p) (s .wired))) NotWired None refl refl)
+    (refuse-limits (not (any (isPlace a p) (s .wired))) NotWired None refl refl)
 call-limits s (Sync o) = refuse-limits (not (ltb o 8)) Range None refl refl
 
 reply-limits : (s : State) (c : Call) (hit : Bool) (o : Option MemoryRefusal) → limits o ≡ false → isLimit (replyBy s c hit o) ≡ false
@@ -178,8 +179,8 @@ module _ (v w : View) (s t : State) (c : Call) (r : Reply) (ready : Ready v s) (
   called-state =
       ap (λ z. withCounts z (added (s .counts) r)) (served .state ∙ ap (movedBy s c) (sym refusal-is))
       ∙ ap (withCounts (movedBy s c (refusal s c)))
-        (sym (cond-false (isLimit r) (s .counts) (added (s .counts) r) (ap isLimit (served .answer) ∙ reply-limits s c (hits v c) (callRefusal s c) (call-limits s c)))
-        ∙ ap (counted (s .counts)) called-answer)
+      (sym (cond-false (isLimit r) (s .counts) (added (s .counts) r) (ap isLimit (served .answer) ∙ reply-limits s c (hits v c) (callRefusal s c) (call-limits s c)))
+      ∙ ap (counted (s .counts)) called-answer)
 
   pub called-view : Leaves v w s c (refusal s c)
   called-view = subst (Leaves v w s c) (sym refusal-is) (served .view)

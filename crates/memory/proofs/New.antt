@@ -14,6 +14,7 @@ use Rattle.memory.proofs.Matching.{match-none}
 
 pub ready-new : (v : View) (s : State) (n : ℕ) → fitsFrames n ≡ true → Cleared v → s ≡ fresh n → Ready v s
 ready-new v s n fits cleared is = subst (Ready v) (sym is) (record {
-    good = good-fresh n (leb-true n 256 (and-parts (leb 1 n) (leb n 256) fits .1));
-    fits = match-none (v .held) (fresh n .lies) (cleared .held);
-    bounded = record { calls = omega arith; refused = omega arith; hits = omega arith; soft = omega arith; hard = omega arith; loads = omega arith; evicted = omega arith; stored = omega arith } })
+  good = good-fresh n (leb-true n 256 (and-parts (leb 1 n) (leb n 256) fits .1));
+  fits = match-none (v .held) (fresh n .lies) (cleared .held);
+  bounded = record { calls = omega arith; refused = omega arith; hits = omega arith; soft = omega arith; hard = omega arith; loads = omega arith; evicted = omega arith; stored = omega arith };
+})

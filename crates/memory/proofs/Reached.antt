@@ -85,7 +85,8 @@ reaches-hit v w s a p f write fits dirty hit put =
       reported = sym (ap (λ z. record { kind = kindOf z (lie s (pageAt s a p)); evicted = evictedBy s (lie s (pageAt s a p)) }) (is .0) ∙ ap (λ z. record { kind = HitKind; evicted = evictedBy s z }) lies);
       lies = ap (λ z. lie z (pageAt s a p)) still ∙ lies;
       state = ap (withDirty s) (put .marked ∙ ap (λ d. marked d write f) (sym dirty)) ∙ sym (ap (λ z. withDirty z (marked (z .dirty) write f)) still);
-      view = subst (Touches v w s a p) (sym (is .0)) (record { here = put .here; others = forgets-all v w a p (marked (v .modified) write f) put }) }
+      view = subst (Touches v w s a p) (sym (is .0)) (record { here = put .here; others = forgets-all v w a p (marked (v .modified) write f) put });
+    }
 
 -- a fault: the object page is brought in, its mapping entered, and the access hits
 module _ (v x y w : View) (s t : State) (a p f g : ℕ) (write loaded : Bool) (out : Evicted) (r : Region)
@@ -96,7 +97,6 @@ module _ (v x y w : View) (s t : State) (a p f g : ℕ) (write loaded : Bool) (o
     (puts : PutForgetting x y a p (Some (f, r .protection, false)) (x .modified))
     (hit : Hit g ≡ answered (y .held a p) write)
     (keeps : PutForgetting y w a p (y .held a p) (marked (y .modified) write g)) where
-
   at : pageAt s a p ≡ pageIn r p
   at = page-at s a p r cov
 
@@ -114,23 +114,25 @@ module _ (v x y w : View) (s t : State) (a p f g : ℕ) (write loaded : Bool) (o
 
   pub reaches-fault : Reaches v w s (withDirty t (w .modified)) a p write g (record { kind = cond loaded Hard Soft; evicted = out })
   reaches-fault = record {
-      room = ap (λ z. wantsFrame s (lie s z)) at ∙ brings .room;
-      reported =
+    room = ap (λ z. wantsFrame s (lie s z)) at ∙ brings .room;
+    reported =
         ap (λ z. record { kind = z; evicted = out }) (kind-is (lie s (pageIn r p)) (brings .told))
         ∙ ap (λ z. record { kind = kindOf false (lie s (pageIn r p)); evicted = z }) (brings .out)
         ∙ ap (λ z. record { kind = kindOf z (lie s (pageIn r p)); evicted = evictedBy s (lie s (pageIn r p)) }) (sym missed)
         ∙ ap (λ z. reportOf s z (serves (v .held a p) write)) (sym at);
-      lies = lies-at ∙ ap Some (sym same-frame);
-      state =
+    lies = lies-at ∙ ap Some (sym same-frame);
+    state =
         ap (withDirty t) (keeps .marked ∙ ap (λ d. marked d write g) (puts .marked ∙ sym dirty))
         ∙ ap (λ z. withDirty z (marked (z .dirty) write g)) (brings .state)
         ∙ ap (λ z. withDirty (resident s z) (marked (resident s z .dirty) write g)) (sym at);
-      view = subst (Touches v w s a p) (sym missed) (record {
-        here = keeps .here ∙ puts .here ∙ sym (ap (λ z. mappingFor z (lie (resident s (pageAt s a p)) (pageAt s a p)) false) cov ∙ ap (λ z. mappingFor (Some r) z false) lies-at);
-        others = λ c d far.
+    view = subst (Touches v w s a p) (sym missed) (record {
+      here = keeps .here ∙ puts .here ∙ sym (ap (λ z. mappingFor z (lie (resident s (pageAt s a p)) (pageAt s a p)) false) cov ∙ ap (λ z. mappingFor (Some r) z false) lies-at);
+      others = λ c d far.
           stays-trans (droppedBy (evictee s (lie s (pageAt s a p))) (v .held c d)) (y .held c d) (w .held c d)
-            (subst (λ z. Stays z (y .held c d)) (brings .held c d ∙ ap (λ z. droppedBy (evictee s (lie s z)) (v .held c d)) (sym at)) (puts .others c d far))
-            (keeps .others c d far) }) }
+          (subst (λ z. Stays z (y .held c d)) (brings .held c d ∙ ap (λ z. droppedBy (evictee s (lie s z)) (v .held c d)) (sym at)) (puts .others c d far))
+          (keeps .others c d far);
+    });
+  }
 
 -- an unwired enter of numbers in range is not refused
 pub enter-passes : (v : View) (a p f q : ℕ) (e : PmapRefusal) → fitsEntry a p f q ≡ true → EnterRefused v a p f q false e → ⊥
@@ -149,6 +151,6 @@ pub right-is : (r : Region) → regionFits r → (r .protection ≡ 1 → ⊥) �
 right-is r fits far =
     let parts = and-parts (fitsPlace (r .space) (r .first)) _ fits in
     ⊎-elim
-      (λ e. absurd (far (eqb-true _ _ e)))
-      (λ e. eqb-true _ _ e)
-      (or-cases (eqb (r .protection) 1) (eqb (r .protection) 3) (and-parts (fitsProtection (r .protection)) _ (parts .1) .0))
+    (λ e. absurd (far (eqb-true _ _ e)))
+    (λ e. eqb-true _ _ e)
+    (or-cases (eqb (r .protection) 1) (eqb (r .protection) 3) (and-parts (fitsProtection (r .protection)) _ (parts .1) .0))

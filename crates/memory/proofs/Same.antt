@@ -40,8 +40,8 @@ access-refusal s a p false r fits cov right = cond-false _ _ _ (ap not fits) ∙
 
 -- what a fault after a miss comes to
 pub after-miss : (v w x : View) (t : Tables) (n : Counts) (u : State) (a p : ℕ) (write : Bool) (r : Region) (q : Result Reached MemoryRefusal) → Same v w → fitsPlace a p ≡ true → cover (memoryState v t n .regions) a p ≡ Some r → (write ≡ true → r .protection ≡ 1 → ⊥)
-  → Cases q (λ z. Reaches w x (memoryState w t n) u a p write (z .frame) (z .report)) (λ e. NoRoom w x (memoryState w t n) u (pageIn r p) e)
-  → Cases q (λ z. (accessRefusal (memoryState v t n) a p write ≡ None) × Reaches v x (memoryState v t n) u a p write (z .frame) (z .report)) (λ e. (accessRefusal (memoryState v t n) a p write ≡ Some e) × Unmoved v x (memoryState v t n) u)
+    → Cases q (λ z. Reaches w x (memoryState w t n) u a p write (z .frame) (z .report)) (λ e. NoRoom w x (memoryState w t n) u (pageIn r p) e)
+    → Cases q (λ z. (accessRefusal (memoryState v t n) a p write ≡ None) × Reaches v x (memoryState v t n) u a p write (z .frame) (z .report)) (λ e. (accessRefusal (memoryState v t n) a p write ≡ Some e) × Unmoved v x (memoryState v t n) u)
 after-miss v w x t n u a p write r (Ok z) same fits cov right h =
     let s = memoryState v t n in
     let k = subst (λ y. Reaches y x (memoryState y t n) u a p write (z .frame) (z .report)) (sym (same-view v w same)) h in

@@ -20,7 +20,10 @@ impl<P: Pmap> Memory<P> {
     {
         let reached = self.reach(space, page, false)?;
         let word = self.tables.word(reached.frame);
-        Ok(Reading { report: reached.report, word })
+        Ok(Reading {
+            report: reached.report,
+            word,
+        })
     }
 
     // Writes a word to the place's object page.

@@ -24,7 +24,11 @@ fn evictions(evicted: &Evicted) -> u32
 {
     match evicted {
         Evicted::Nothing => 0,
-        Evicted::Page { object: _, index: _, stored: _ } => 1,
+        Evicted::Page {
+            object: _,
+            index: _,
+            stored: _,
+        } => 1,
     }
 }
 
@@ -34,7 +38,11 @@ fn savings(evicted: &Evicted) -> u32
 {
     match evicted {
         Evicted::Nothing => 0,
-        Evicted::Page { object: _, index: _, stored } => one(*stored),
+        Evicted::Page {
+            object: _,
+            index: _,
+            stored,
+        } => one(*stored),
     }
 }
 
@@ -63,8 +71,15 @@ pub fn added(n: &Counts, reply: &Reply) -> Counts
     ensures { λ r. ⌜ r ≡ addedBy (now (n .entry)) (now (reply .entry)) ⌝ }
 {
     match reply {
-        Err(_) => Counts { calls: n.calls + 1, refused: n.refused + 1, ..*n },
-        Ok(Answer::Done) => Counts { calls: n.calls + 1, ..*n },
+        Err(_) => Counts {
+            calls: n.calls + 1,
+            refused: n.refused + 1,
+            ..*n
+        },
+        Ok(Answer::Done) => Counts {
+            calls: n.calls + 1,
+            ..*n
+        },
         Ok(Answer::Read(reading)) => accessed(n, &reading.report),
         Ok(Answer::Wrote(report)) => accessed(n, report),
         Ok(Answer::Wired(wiring)) => Counts {
@@ -74,6 +89,10 @@ pub fn added(n: &Counts, reply: &Reply) -> Counts
             stored: n.stored + savings(&wiring.evicted),
             ..*n
         },
-        Ok(Answer::Synced(stored)) => Counts { calls: n.calls + 1, stored: n.stored + *stored, ..*n },
+        Ok(Answer::Synced(stored)) => Counts {
+            calls: n.calls + 1,
+            stored: n.stored + *stored,
+            ..*n
+        },
     }
 }

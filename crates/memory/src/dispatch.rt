@@ -17,7 +17,14 @@ impl<P: Pmap> Memory<P> {
         ensures kept { λ _. ⌜ kept (now (self .exit) .pmap) ⌝ }
     {
         match call {
-            Call::Map { space, page, count, object, offset, protection } => {
+            Call::Map {
+                space,
+                page,
+                count,
+                object,
+                offset,
+                protection,
+            } => {
                 self.map_region(space, page, count, object, offset, protection)?;
                 Ok(Answer::Done)
             }
@@ -25,12 +32,18 @@ impl<P: Pmap> Memory<P> {
                 self.unmap_region(space, page)?;
                 Ok(Answer::Done)
             }
-            Call::Protect { space, page, protection } => {
+            Call::Protect {
+                space,
+                page,
+                protection,
+            } => {
                 self.protect_region_at(space, page, protection)?;
                 Ok(Answer::Done)
             }
             Call::Read { space, page } => Ok(Answer::Read(self.read_page(space, page)?)),
-            Call::Write { space, page, word } => Ok(Answer::Wrote(self.write_page(space, page, word)?)),
+            Call::Write { space, page, word } => Ok(Answer::Wrote(
+                self.write_page(space, page, word)?,
+            )),
             Call::Wire { space, page } => Ok(Answer::Wired(self.wire_place(space, page)?)),
             Call::Unwire { space, page } => {
                 self.unwire_place(space, page)?;

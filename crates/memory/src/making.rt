@@ -32,7 +32,20 @@ impl<P: Pmap> Memory<P> {
             return Err(Unmade::NoMemory(pmap));
         };
         pmap.clear();
-        let counts = Counts { calls: 0, refused: 0, hits: 0, soft: 0, hard: 0, loads: 0, evicted: 0, stored: 0 };
-        Ok(Memory { pmap, tables, counts })
+        let counts = Counts {
+            calls: 0,
+            refused: 0,
+            hits: 0,
+            soft: 0,
+            hard: 0,
+            loads: 0,
+            evicted: 0,
+            stored: 0,
+        };
+        Ok(Memory {
+            pmap,
+            tables,
+            counts,
+        })
     }
 }

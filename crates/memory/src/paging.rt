@@ -65,13 +65,21 @@ impl<P: Pmap> Memory<P> {
         ensures kept { λ _. ⌜ kept (now (self .exit) .pmap) ⌝ }
     {
         if let Some(frame) = self.tables.frame_of(x) {
-            return Ok(Brought { frame, loaded: false, evicted: Evicted::Nothing });
+            return Ok(Brought {
+                frame,
+                loaded: false,
+                evicted: Evicted::Nothing,
+            });
         }
         let used = self.tables.queue.len();
         if used < usize::from(self.tables.frames) {
             let frame = used as u16;
             self.tables.load(x, frame);
-            return Ok(Brought { frame, loaded: true, evicted: Evicted::Nothing });
+            return Ok(Brought {
+                frame,
+                loaded: true,
+                evicted: Evicted::Nothing,
+            });
         }
         let Some(at) = self.tables.victim() else {
             return Err(MemoryRefusal::NoFrame);
@@ -79,6 +87,10 @@ impl<P: Pmap> Memory<P> {
         let frame = self.tables.queue[at];
         let evicted = self.evict(at)?;
         self.tables.load(x, frame);
-        Ok(Brought { frame, loaded: true, evicted })
+        Ok(Brought {
+            frame,
+            loaded: true,
+            evicted,
+        })
     }
 }

@@ -30,7 +30,13 @@ pub struct Reached {
 
 impl<P: Pmap> Memory<P> {
     // Brings the object page in, enters the place's mapping, and repeats the access.
-    fn fault(&mut self, region: Region, space: u8, page: u32, write: bool) -> Result<Reached, MemoryRefusal>
+    fn fault(
+        &mut self,
+        region: Region,
+        space: u8,
+        page: u32,
+        write: bool,
+    ) -> Result<Reached, MemoryRefusal>
         requires kept { ⌜ kept (now self .pmap) ⌝ }
         requires ready { ⌜ Ready (view (now self .pmap)) (memoryState (view (now self .pmap)) (now self .tables) (now self .counts)) ⌝ }
         requires place { ⌜ fitsPlace space page ≡ true ⌝ }
@@ -41,12 +47,23 @@ impl<P: Pmap> Memory<P> {
         ensures kept { λ _. ⌜ kept (now (self .exit) .pmap) ⌝ }
     {
         let brought = self.bring(object_page(&region, page))?;
-        self.pmap.enter(space, page, brought.frame, region.protection, false)?;
+        self.pmap
+            .enter(space, page, brought.frame, region.protection, false)?;
         let Access::Hit(frame) = self.pmap.access(space, page, write)? else {
             unreachable()
         };
-        let kind = if brought.loaded { Kind::Hard } else { Kind::Soft };
-        Ok(Reached { frame, report: Report { kind, evicted: brought.evicted } })
+        let kind = if brought.loaded {
+            Kind::Hard
+        } else {
+            Kind::Soft
+        };
+        Ok(Reached {
+            frame,
+            report: Report {
+                kind,
+                evicted: brought.evicted,
+            },
+        })
     }
 
     // The frame of the place's object page: a hit, or a fault.
@@ -68,6 +85,12 @@ impl<P: Pmap> Memory<P> {
         let Access::Hit(frame) = self.pmap.access(space, page, write)? else {
             return self.fault(region, space, page, write);
         };
-        Ok(Reached { frame, report: Report { kind: Kind::Hit, evicted: Evicted::Nothing } })
+        Ok(Reached {
+            frame,
+            report: Report {
+                kind: Kind::Hit,
+                evicted: Evicted::Nothing,
+            },
+        })
     }
 }

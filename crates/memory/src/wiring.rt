@@ -37,8 +37,16 @@ impl<P: Pmap> Memory<P> {
             return Err(MemoryRefusal::WiredFull);
         }
         let brought = self.bring(object_page(&region, page))?;
-        self.pmap.enter(space, page, brought.frame, region.protection, true)?;
-        self.tables.add_wired(WiredPlace { space, page, frame: brought.frame });
-        Ok(Wiring { loaded: brought.loaded, evicted: brought.evicted })
+        self.pmap
+            .enter(space, page, brought.frame, region.protection, true)?;
+        self.tables.add_wired(WiredPlace {
+            space,
+            page,
+            frame: brought.frame,
+        });
+        Ok(Wiring {
+            loaded: brought.loaded,
+            evicted: brought.evicted,
+        })
     }
 }

@@ -22,8 +22,9 @@ returns-then-used-from g c =
     let is = c .load .ensures (v (m .pmap) .modified) (m .counts) ∙ ap (load s (c .args .x)) n in
     record {
       brings = subst (λ z. Brings (v (m .pmap)) (v (m .pmap)) s (memoryState (v (m .pmap)) (c .load .last .self) (m .counts)) (c .args .x) z _ _) (sym n)
-        (brings-unused (v (m .pmap)) s (c .args .x) (c .pre .1 .0) (c .pre .1 .1) (sym (c .in-rest .ensures tt)) (memoryState (v (m .pmap)) (c .load .last .self) (m .counts)) room is);
-      kept = c .pre .0 }
+          (brings-unused (v (m .pmap)) s (c .args .x) (c .pre .1 .0) (c .pre .1 .1) (sym (c .in-rest .ensures tt)) (memoryState (v (m .pmap)) (c .load .last .self) (m .counts)) room is);
+      kept = c .pre .0;
+    }
 
 pub returns-in-rest-victim : need.returns-in-rest-victim
 returns-in-rest-victim g c =
@@ -32,7 +33,8 @@ returns-in-rest-victim g c =
     let full : m .tables .frames ≤ length (vec-items (m .tables .queue)) = omega (arith, c .len-used .ensures, m .tables .queue .ok .0, c .if-used-from .left, c .from .ensures) in
     record {
       brings = brings-none (v (m .pmap)) (memoryState (v (m .pmap)) (m .tables) (m .counts)) (c .args .x) (c .pre .1 .0) (c .pre .1 .1) (sym (c .in-rest .ensures tt)) full (sym (c .in-rest-victim .ensures tt));
-      kept = c .pre .0 }
+      kept = c .pre .0;
+    }
 
 pub index-frame-requires : need.index-frame-requires
 index-frame-requires g c κs =
@@ -47,12 +49,19 @@ evict-requires g c κs =
     let here = sym (c .in-Some-victim .ensures tt) in
     let full : m .tables .frames ≤ length (vec-items (m .tables .queue)) = omega (arith, c .len-used .ensures, m .tables .queue .ok .0, c .if-used-from .left, c .from .ensures) in
     let inside = place-inside (free (vec-items (m .tables .wired))) (vec-items (m .tables .queue)) (c .in-Some-victim .at) here in
-    let fits : c .in-Some-victim .at < vec-len (m .tables .queue) = omega (arith, inside, m .tables .queue .ok .0) in
-    ( c .pre .0
-    , (here
-    , (fits
-    , ( victim-low (v (m .pmap)) s (c .args .x) (c .pre .1 .0) (c .pre .1 .1) (sym (c .in-rest .ensures tt)) full (c .in-Some-victim .at) here
-      , victim-owner (v (m .pmap)) s (c .args .x) (c .pre .1 .0) (c .pre .1 .1) (sym (c .in-rest .ensures tt)) full (c .in-Some-victim .at) here ))))
+    let fits : c .in-Some-victim .at < vec-len (m .tables .queue) = omega (arith, inside, m .tables .queue .ok .0) in (
+      c .pre .0,
+      (
+        here,
+        (
+          fits,
+          (
+            victim-low (v (m .pmap)) s (c .args .x) (c .pre .1 .0) (c .pre .1 .1) (sym (c .in-rest .ensures tt)) full (c .in-Some-victim .at) here,
+            victim-owner (v (m .pmap)) s (c .args .x) (c .pre .1 .0) (c .pre .1 .1) (sym (c .in-rest .ensures tt)) full (c .in-Some-victim .at) here,
+          ),
+        ),
+      ),
+    )
 
 pub load-requires-2 : need.load-requires-2
 load-requires-2 g c κs =
@@ -84,7 +93,8 @@ returns g c =
     let mid = memoryState (v (e .pmap)) (e .tables) (e .counts) in
     record {
       brings = subst (λ z. Brings (v (m .pmap)) (v (e .pmap)) s last (c .args .x) z _ (c .in-Continue-evicted .evicted)) (sym frame)
-        (brings-victim (v (m .pmap)) s (c .args .x) (c .pre .1 .0) (c .pre .1 .1) (sym (c .in-rest .ensures tt)) full (c .in-Some-victim .at) here
+          (brings-victim (v (m .pmap)) s (c .args .x) (c .pre .1 .0) (c .pre .1 .1) (sym (c .in-rest .ensures tt)) full (c .in-Some-victim .at) here
           (v (e .pmap)) mid last (c .in-Continue-evicted .evicted) (c .in-Continue-evicted .ensures tt .evicts)
           (c .load-2 .ensures (v (e .pmap) .modified) (e .counts) ∙ ap (load mid (c .args .x)) frame));
-      kept = c .in-Continue-evicted .ensures tt .kept }
+      kept = c .in-Continue-evicted .ensures tt .kept;
+    }

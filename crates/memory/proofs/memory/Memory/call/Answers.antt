@@ -16,17 +16,21 @@ returns-then-counts-ge-CALL-LIMIT g c =
       state = limit-state (v (m .pmap)) s (c .args .call) full;
       view = limit-view (v (m .pmap)) s (c .args .call) full;
       ready = c .pre .ready;
-      kept = c .pre .kept }
+      kept = c .pre .kept;
+    }
 
 pub added-self-requires : need.added-self-requires
 added-self-requires g c κs =
     let v = g .P·Pmap .view in
     let m = c .args .self .now in
     let e = c .serve-reply .last .self in
-    let s = memoryState (v (m .pmap)) (m .tables) (m .counts) in
-    ( c .pre .ready .bounded
-    , ( c .if-counts-ge-CALL-LIMIT .left
-      , few-stored (v (m .pmap)) (v (e .pmap)) s (memoryState (v (e .pmap)) (e .tables) (e .counts)) (c .args .call) (c .serve-reply .result) (c .pre .ready) (c .if-counts-ge-CALL-LIMIT .left) (c .serve-reply .ensures .serves) ) )
+    let s = memoryState (v (m .pmap)) (m .tables) (m .counts) in (
+      c .pre .ready .bounded,
+      (
+        c .if-counts-ge-CALL-LIMIT .left,
+        few-stored (v (m .pmap)) (v (e .pmap)) s (memoryState (v (e .pmap)) (e .tables) (e .counts)) (c .args .call) (c .serve-reply .result) (c .pre .ready) (c .if-counts-ge-CALL-LIMIT .left) (c .serve-reply .ensures .serves),
+      ),
+    )
 
 pub returns : need.returns
 returns g c =
@@ -44,4 +48,5 @@ returns g c =
       state = is ∙ called-state (v (m .pmap)) (v (e .pmap)) s t (c .args .call) r (c .pre .ready) less served;
       view = called-view (v (m .pmap)) (v (e .pmap)) s t (c .args .call) r (c .pre .ready) less served;
       ready = subst (Ready (v (e .pmap))) (sym is) (called-ready (v (m .pmap)) (v (e .pmap)) s t (c .args .call) r (c .pre .ready) less served);
-      kept = c .serve-reply .ensures .kept }
+      kept = c .serve-reply .ensures .kept;
+    }

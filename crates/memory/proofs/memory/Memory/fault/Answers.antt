@@ -25,5 +25,5 @@ returns-in-Break-enter g c =
     let b = c .in-Continue-brought .ensures tt .brings in
     let low : c .object-page .result < 2048 = omega (arith, x .page-low, c .object-page .ensures) in
     let fits = entry-fits (resident s (c .object-page .result)) (c .args .space) (c .args .page) (c .object-page .result) (c .in-Continue-brought .brought .frame) (c .args .region)
-          (good-resident s (c .object-page .result) (c .pre .ready .good) low (b .room)) (c .pre .place) (x .fits) (b .lies) in
+    (good-resident s (c .object-page .result) (c .pre .ready .good) low (b .room)) (c .pre .place) (x .fits) (b .lies) in
     absurd (enter-passes (v (c .bring .last .self .pmap)) (c .args .space) (c .args .page) (c .in-Continue-brought .brought .frame) (c .args .region .protection) (c .in-Break-enter .field-0 .0) fits (c .in-Break-enter .ensures tt .meaning .0))

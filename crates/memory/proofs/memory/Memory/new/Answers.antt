@@ -11,6 +11,7 @@ returns g c =
     let w = g .P·Pmap .view (c .clear .last .self) in
     let cleared = c .clear .ensures .meaning in
     let fits = and-from _ _ (le-leb 1 (c .args .frames) (c .if-frames-lt1 .left)) (le-leb (c .args .frames) 256 (c .if-frames-gt256 .left)) in
-    let state : memoryState w (c .in-Ok .tables) noCounts ≡ fresh (c .args .frames) = ap (λ d. stateOf (c .in-Ok .tables) d noCounts) (cleared .marks) ∙ c .in-Ok .ensures tt in
-    ( record { fits = fits; cleared = cleared; state = state; ready = ready-new w (memoryState w (c .in-Ok .tables) noCounts) (c .args .frames) fits cleared state }
-    , c .clear .ensures .kept )
+    let state : memoryState w (c .in-Ok .tables) noCounts ≡ fresh (c .args .frames) = ap (λ d. stateOf (c .in-Ok .tables) d noCounts) (cleared .marks) ∙ c .in-Ok .ensures tt in (
+      record { fits = fits; cleared = cleared; state = state; ready = ready-new w (memoryState w (c .in-Ok .tables) noCounts) (c .args .frames) fits cleared state },
+      c .clear .ensures .kept,
+    )

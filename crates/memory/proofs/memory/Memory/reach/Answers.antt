@@ -27,8 +27,9 @@ fault-requires g c κs =
       place = told .0;
       covers = cov;
       right = λ t. right-is (c .in-Some .region) (covered s (c .args .space) (c .args .page) (c .in-Some .region) (c .pre .ready .good) cov .fits)
-        (λ o. ⊎-elim (λ y. y .1 o) (λ n. both-ways (c .args .write) n t) (c .else-write .either));
-      missed = ap (λ z. serves z (c .args .write)) (same .held (c .args .space) (c .args .page)) ∙ serves-miss (v (m .pmap) .held (c .args .space) (c .args .page)) (c .args .write) (sym (c .in-rest-2 .is) ∙ told .1 .0) }
+          (λ o. ⊎-elim (λ y. y .1 o) (λ n. both-ways (c .args .write) n t) (c .else-write .either));
+      missed = ap (λ z. serves z (c .args .write)) (same .held (c .args .space) (c .args .page)) ∙ serves-miss (v (m .pmap) .held (c .args .space) (c .args .page)) (c .args .write) (sym (c .in-rest-2 .is) ∙ told .1 .0);
+    }
 
 pub returns-in-rest-2 : need.returns-in-rest-2
 returns-in-rest-2 g c =
@@ -40,8 +41,9 @@ returns-in-rest-2 g c =
     let same : Same (v (m .pmap)) w = subst (Accessed (v (m .pmap)) w (c .args .space) (c .args .page) (c .args .write)) (c .in-rest-2 .is) (told .1 .1) in
     record {
       reaches = after-miss (v (m .pmap)) w (v (end .pmap)) (m .tables) (m .counts) (memoryState (v (end .pmap)) (end .tables) (end .counts)) (c .args .space) (c .args .page) (c .args .write) (c .in-Some .region) (c .fault .result)
-        same (told .0) (sym (c .in-Some .ensures tt)) (λ t o. ⊎-elim (λ y. y .1 o) (λ n. both-ways (c .args .write) n t) (c .else-write .either)) (c .fault .ensures .reaches);
-      kept = c .fault .ensures .kept }
+          same (told .0) (sym (c .in-Some .ensures tt)) (λ t o. ⊎-elim (λ y. y .1 o) (λ n. both-ways (c .args .write) n t) (c .else-write .either)) (c .fault .ensures .reaches);
+      kept = c .fault .ensures .kept;
+    }
 
 pub returns : need.returns
 returns g c =
@@ -52,10 +54,12 @@ returns g c =
     let told = c .in-Continue-frame .ensures tt .meaning in
     let cov = sym (c .in-Some .ensures tt) in
     let reached = reaches-hit (v (m .pmap)) w s (c .args .space) (c .args .page) (c .in-Hit .frame) (c .args .write) (c .pre .ready .fits) refl (sym (c .in-Hit .is) ∙ told .1 .0)
-          (subst (Accessed (v (m .pmap)) w (c .args .space) (c .args .page) (c .args .write)) (c .in-Hit .is) (told .1 .1)) in
+    (subst (Accessed (v (m .pmap)) w (c .args .space) (c .args .page) (c .args .write)) (c .in-Hit .is) (told .1 .1)) in
     record {
-      reaches =
-        ( access-refusal s (c .args .space) (c .args .page) (c .args .write) (c .in-Some .region) (told .0) cov (λ t o. ⊎-elim (λ y. y .1 o) (λ n. both-ways (c .args .write) n t) (c .else-write .either))
-          ∙ ap (λ z. wantsFrame s (lie s z)) (sym (page-at s (c .args .space) (c .args .page) (c .in-Some .region) cov)) ∙ reached .room
-        , reached );
-      kept = c .in-Continue-frame .ensures tt .kept }
+      reaches = (
+        access-refusal s (c .args .space) (c .args .page) (c .args .write) (c .in-Some .region) (told .0) cov (λ t o. ⊎-elim (λ y. y .1 o) (λ n. both-ways (c .args .write) n t) (c .else-write .either))
+            ∙ ap (λ z. wantsFrame s (lie s z)) (sym (page-at s (c .args .space) (c .args .page) (c .in-Some .region) cov)) ∙ reached .room,
+        reached,
+      );
+      kept = c .in-Continue-frame .ensures tt .kept;
+    }

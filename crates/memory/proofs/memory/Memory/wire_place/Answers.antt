@@ -31,11 +31,11 @@ returns-in-Break-enter g c =
     let low : y < 2048 = omega (arith, x .page-low, c .object-page .ensures) in
     let few : length (vec-items (m .tables .wired)) < 8 = omega (arith, c .len .ensures, m .tables .wired .ok .0, c .if-len-ge-WIRED-PLACES .left) in
     let fits = entry-fits (resident s y) (c .args .space) (c .args .page) y (c .in-Continue-brought .brought .frame) (c .in-Some .region)
-          (good-resident s y (c .pre .ready .good) low (b .room)) (sym (c .if-not-fits-place .ensures tt)) (x .fits) (b .lies) in
+    (good-resident s y (c .pre .ready .good) low (b .room)) (sym (c .if-not-fits-place .ensures tt)) (x .fits) (b .lies) in
     absurd (wired-enter-passes (v (c .bring .last .self .pmap)) (c .args .space) (c .args .page) (c .in-Continue-brought .brought .frame) (c .in-Some .region .protection) (c .in-Break-enter .field-0 .0) fits
-      (not-crowded (v (m .pmap) .held) (v (c .bring .last .self .pmap) .held) (vec-items (m .tables .regions)) (vec-items (m .tables .lies)) (vec-items (m .tables .wired)) (c .args .space) (c .args .page) (c .pre .ready .fits) few
-        (λ a d w. dropped-wired (evictee s (lie s y)) (v (m .pmap) .held a d) (ap isWired (sym (b .held a d)) ∙ w)))
-      (c .in-Break-enter .ensures tt .meaning .0))
+    (not-crowded (v (m .pmap) .held) (v (c .bring .last .self .pmap) .held) (vec-items (m .tables .regions)) (vec-items (m .tables .lies)) (vec-items (m .tables .wired)) (c .args .space) (c .args .page) (c .pre .ready .fits) few
+    (λ a d w. dropped-wired (evictee s (lie s y)) (v (m .pmap) .held a d) (ap isWired (sym (b .held a d)) ∙ w)))
+    (c .in-Break-enter .ensures tt .meaning .0))
 
 pub returns : need.returns
 returns g c =
@@ -48,7 +48,8 @@ returns g c =
     let few : length (vec-items (m .tables .wired)) < 8 = omega (arith, c .len .ensures, m .tables .wired .ok .0, c .if-len-ge-WIRED-PLACES .left) in
     record {
       serves = wire-served s (c .args .space) (c .args .page) (sym (c .if-not-fits-place .ensures tt)) (c .in-Some .region) (sym (c .in-Some .ensures tt)) (sym (c .if-is-wired .ensures tt))
-        (v (m .pmap)) (v (e .pmap)) w (memoryState (v (e .pmap)) (e .tables) (e .counts)) (memoryState w (c .add-wired .last .self) (e .counts)) (c .in-Continue-brought .brought .frame) (c .in-Continue-brought .brought .loaded) (c .in-Continue-brought .brought .evicted) few
-        (subst (λ z. Brings (v (m .pmap)) (v (e .pmap)) s (memoryState (v (e .pmap)) (e .tables) (e .counts)) z (c .in-Continue-brought .brought .frame) (c .in-Continue-brought .brought .loaded) (c .in-Continue-brought .brought .evicted)) (c .object-page .ensures) b)
-        refl (c .in-Continue-enter .ensures tt .meaning .1) (c .add-wired .ensures (w .modified) (e .counts));
-      kept = c .in-Continue-enter .ensures tt .kept }
+          (v (m .pmap)) (v (e .pmap)) w (memoryState (v (e .pmap)) (e .tables) (e .counts)) (memoryState w (c .add-wired .last .self) (e .counts)) (c .in-Continue-brought .brought .frame) (c .in-Continue-brought .brought .loaded) (c .in-Continue-brought .brought .evicted) few
+          (subst (λ z. Brings (v (m .pmap)) (v (e .pmap)) s (memoryState (v (e .pmap)) (e .tables) (e .counts)) z (c .in-Continue-brought .brought .frame) (c .in-Continue-brought .brought .loaded) (c .in-Continue-brought .brought .evicted)) (c .object-page .ensures) b)
+          refl (c .in-Continue-enter .ensures tt .meaning .1) (c .add-wired .ensures (w .modified) (e .counts));
+      kept = c .in-Continue-enter .ensures tt .kept;
+    }

@@ -19,5 +19,6 @@ returns g c =
     let r = c .in-Continue-reached .ensures tt .reaches in
     record {
       serves = write-served (v (m .pmap)) (v (e .pmap)) (memoryState (v (m .pmap)) (m .tables) (m .counts)) (memoryState (v (e .pmap)) (e .tables) (e .counts)) (c .args .space) (c .args .page)
-        (memoryState (v (e .pmap)) (c .write-word .last .self) (e .counts)) (c .in-Continue-reached .reached .frame) (c .args .word) (c .in-Continue-reached .reached .report) (r .0) (r .1) (c .write-word .ensures (v (e .pmap) .modified) (e .counts));
-      kept = c .in-Continue-reached .ensures tt .kept }
+          (memoryState (v (e .pmap)) (c .write-word .last .self) (e .counts)) (c .in-Continue-reached .reached .frame) (c .args .word) (c .in-Continue-reached .reached .report) (r .0) (r .1) (c .write-word .ensures (v (e .pmap) .modified) (e .counts));
+      kept = c .in-Continue-reached .ensures tt .kept;
+    }
