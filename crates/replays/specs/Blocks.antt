@@ -3,6 +3,7 @@ use mathlib.Core.List.{List, [], _∷_, _++_}
 use mathlib.Core.Bool.{Bool, true, false, cond}
 use Prim.Native.Nat.{ℕ, zero, suc, _+_, _/_, _%_}
 use lib.Chars.{codes}
+use lib.ListN.{drop}
 use Rattle.std.specs.Written.{decimal}
 use Rattle.std.specs.declared.result.Result.{Result}
 use Rattle.std.specs.declared.result.Result.the-variants.{Ok, Err}
@@ -44,3 +45,55 @@ outcomeBy n (Err e) reply = Err (record { number = n; inner = File e })
 
 abbrev pub outcomeOf : Entry → Reply → Result Answer ReplayRefusal
 outcomeOf e reply = outcomeBy (e .number) (e .content) reply
+
+-- the line of a record: a read's word, or a refusal; an accepted call of another kind has none
+abbrev pub refusedLine : ℕ → Code → List ℕ
+refusedLine n code = codes "refused " ++ (decimal n ++ (codes " " ++ (decimal (code .number) ++ (codes " " ++ (letter (code .layer) ++ codes "\n")))))
+
+abbrev pub readLine : ℕ → ℕ → List ℕ
+readLine n word = codes "read " ++ (decimal n ++ (codes " " ++ (decimal word ++ codes "\n")))
+
+abbrev pub outcomeLine : ℕ → Result Answer ReplayRefusal → List ℕ
+outcomeLine n (Err r) = refusedLine (r .number) (replayCode r)
+outcomeLine n (Ok Done) = []
+outcomeLine n (Ok (ReadAnswer x)) = readLine n (x .word)
+outcomeLine n (Ok (Wrote x)) = []
+outcomeLine n (Ok (Wired x)) = []
+outcomeLine n (Ok (Synced x)) = []
+
+-- each record that the reader did not turn away has the next reply
+abbrev pub nextReply : List Reply → Reply
+nextReply [] = Ok Done
+nextReply (r ∷ rs) = r
+
+abbrev pub used : Result Record FileRefusal → ℕ
+used (Ok r) = 1
+used (Err e) = 0
+
+unfoldable pub linesOf : List Entry → List Reply → List ℕ
+linesOf [] rs = []
+linesOf (e ∷ es) rs = outcomeLine (e .number) (outcomeOf e (nextReply rs)) ++ linesOf es (drop (used (e .content)) rs)
+
+-- the counts
+abbrev pub accessCounts : Counts → List ℕ
+accessCounts n =
+    codes "accesses " ++ (decimal (n .hits + n .soft + n .hard) ++ (codes " hits " ++ (decimal (n .hits) ++ (codes " soft " ++ (decimal (n .soft) ++ (codes " hard " ++ decimal (n .hard)))))))
+
+abbrev pub pageCounts : Counts → List ℕ
+pageCounts n = codes " loads " ++ (decimal (n .loads) ++ (codes " evicted " ++ (decimal (n .evicted) ++ (codes " written " ++ (decimal (n .stored) ++ codes "\n")))))
+
+abbrev pub countsLine : Counts → List ℕ
+countsLine n = accessCounts n ++ pageCounts n
+
+-- a line for each of the first n object pages that is modified
+abbrev pub dirtyLine : ℕ → List ℕ
+dirtyLine x = codes "dirty " ++ (decimal (x / 256) ++ (codes " " ++ (decimal (x % 256) ++ codes "\n")))
+
+unfoldable pub dirtyLines : (ℕ → Bool) → ℕ → List ℕ
+dirtyLines modified zero = []
+dirtyLines modified (suc n) = dirtyLines modified n ++ cond (modified n) (dirtyLine n) []
+
+-- a block: the machine's name, the lines of the records, the counts, the modified pages
+abbrev pub blockText : List ℕ → List Entry → List Reply → Counts → (ℕ → Bool) → List ℕ
+blockText name entries replies counts modified =
+    (((codes "machine " ++ (name ++ codes "\n")) ++ linesOf entries replies) ++ countsLine counts) ++ dirtyLines modified 2048
