@@ -10,6 +10,7 @@ use std::alloc::Global;
 use tables::table::Tables;
 
 // Why no memory was made. The pmap comes back as it was.
+#[derive(Drop)]
 pub enum Unmade<P> {
     // the frame count is outside 1 to 256
     Refused(FileRefusal, P),

@@ -1,6 +1,6 @@
 -- What became of each record of a replay, and the text of a block, as bytes. Assumes nothing.
 use mathlib.Core.List.{List, [], _∷_, _++_}
-use mathlib.Core.Bool.{Bool, true, false, cond}
+use mathlib.Core.Bool.{Bool, true, false}
 use Prim.Native.Nat.{ℕ, zero, suc, _+_, _/_, _%_}
 use lib.Chars.{codes}
 use lib.ListN.{drop}
@@ -82,18 +82,24 @@ accessCounts n =
 abbrev pub pageCounts : Counts → List ℕ
 pageCounts n = codes " loads " ++ (decimal (n .loads) ++ (codes " evicted " ++ (decimal (n .evicted) ++ (codes " written " ++ (decimal (n .stored) ++ codes "\n")))))
 
-abbrev pub countsLine : Counts → List ℕ
-countsLine n = accessCounts n ++ pageCounts n
-
 -- a line for each of the first n object pages that is modified
 abbrev pub dirtyLine : ℕ → List ℕ
 dirtyLine x = codes "dirty " ++ (decimal (x / 256) ++ (codes " " ++ (decimal (x % 256) ++ codes "\n")))
 
+abbrev pub dirtyLineIf : Bool → ℕ → List ℕ
+dirtyLineIf true x = dirtyLine x
+dirtyLineIf false x = []
+
 unfoldable pub dirtyLines : (ℕ → Bool) → ℕ → List ℕ
 dirtyLines modified zero = []
-dirtyLines modified (suc n) = dirtyLines modified n ++ cond (modified n) (dirtyLine n) []
+dirtyLines modified (suc n) = dirtyLines modified n ++ dirtyLineIf (modified n) n
 
 -- a block: the machine's name, the lines of the records, the counts, the modified pages
+abbrev pub blockHead : List ℕ → List ℕ
+blockHead name = codes "machine " ++ (name ++ codes "\n")
+
+abbrev pub blockTail : Counts → (ℕ → Bool) → List ℕ
+blockTail counts modified = accessCounts counts ++ (pageCounts counts ++ dirtyLines modified 2048)
+
 abbrev pub blockText : List ℕ → List Entry → List Reply → Counts → (ℕ → Bool) → List ℕ
-blockText name entries replies counts modified =
-    (((codes "machine " ++ (name ++ codes "\n")) ++ linesOf entries replies) ++ countsLine counts) ++ dirtyLines modified 2048
+blockText name entries replies counts modified = blockHead name ++ (linesOf entries replies ++ blockTail counts modified)

@@ -1,2 +1,3 @@
 pub mod Selected
 pub mod Blocks
+pub mod Replayed

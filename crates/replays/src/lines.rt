@@ -19,7 +19,11 @@ use std::alloc::Global;
 use trace::record::Entry;
 
 // The line of a record, or nothing.
-fn line(heap: Global, number: u32, became: &Result<Answer, ReplayRefusal>) -> Result<String, AllocError>
+fn line(
+    heap: Global,
+    number: u32,
+    became: &Result<Answer, ReplayRefusal>,
+) -> Result<String, AllocError>
     ensures { λ r. ⌜ made r (λ t. string-bytes t ≡ outcomeLine number (now (became .entry))) ⌝ }
 {
     match became {
@@ -42,7 +46,11 @@ fn line(heap: Global, number: u32, became: &Result<Answer, ReplayRefusal>) -> Re
 fn reply_at(replies: &[Reply], next: usize) -> Reply
     ensures { λ r. ⌜ r ≡ nextReply (drop next (now (replies .entry))) ⌝ }
 {
-    if next < replies.len() { replies[next] } else { Ok(Answer::Done) }
+    if next < replies.len() {
+        replies[next]
+    } else {
+        Ok(Answer::Done)
+    }
 }
 
 // The position of the reply after an entry.
@@ -66,7 +74,12 @@ fn push_line(heap: Global, text: &mut String, item: &Entry, reply: Reply) -> Res
 }
 
 // Puts the line of each record behind a text.
-pub fn push_lines(heap: Global, text: &mut String, entries: &[Entry], replies: &[Reply]) -> Result<(), AllocError>
+pub fn push_lines(
+    heap: Global,
+    text: &mut String,
+    entries: &[Entry],
+    replies: &[Reply],
+) -> Result<(), AllocError>
     ensures { λ r. ⌜ made r (λ _. string-bytes (now (text .exit)) ≡ string-bytes (now (text .entry)) ++ linesOf (now (entries .entry)) (now (replies .entry))) ⌝ }
 {
     let mut next = 0usize;
@@ -78,7 +91,7 @@ pub fn push_lines(heap: Global, text: &mut String, entries: &[Entry], replies: &
 }
 
 // Puts the counts of accesses behind a text.
-fn push_accesses(heap: Global, text: &mut String, n: &Counts) -> Result<(), AllocError>
+pub fn push_accesses(heap: Global, text: &mut String, n: &Counts) -> Result<(), AllocError>
     requires { ⌜ now n .hits + now n .soft + now n .hard < 4294967296 ⌝ }
     ensures { λ r. ⌜ made r (λ _. string-bytes (now (text .exit)) ≡ string-bytes (now (text .entry)) ++ accessCounts (now (n .entry))) ⌝ }
 {
@@ -86,12 +99,15 @@ fn push_accesses(heap: Global, text: &mut String, n: &Counts) -> Result<(), Allo
     let hits = n.hits;
     let soft = n.soft;
     let hard = n.hard;
-    text.push_str(format!(heap, "accesses {accesses} hits {hits} soft {soft} hard {hard}")?.as_str())?;
+    text.push_str(format!(
+        heap,
+        "accesses {accesses} hits {hits} soft {soft} hard {hard}"
+    )?.as_str())?;
     Ok(())
 }
 
 // Puts the counts of pages behind a text.
-fn push_moves(heap: Global, text: &mut String, n: &Counts) -> Result<(), AllocError>
+pub fn push_moves(heap: Global, text: &mut String, n: &Counts) -> Result<(), AllocError>
     ensures { λ r. ⌜ made r (λ _. string-bytes (now (text .exit)) ≡ string-bytes (now (text .entry)) ++ pageCounts (now (n .entry))) ⌝ }
 {
     let loads = n.loads;

@@ -28,7 +28,10 @@ pub impl From<(u32, FileRefusal)> for ReplayRefusal as ReplayFromFile {
     ghost converts = { λ e r. (r .number ≡ e .0) × (r .inner ≡ File (e .1)) };
 
     fn from(e: (u32, FileRefusal)) -> ReplayRefusal {
-        ReplayRefusal { number: e.0, inner: Inner::File(e.1) }
+        ReplayRefusal {
+            number: e.0,
+            inner: Inner::File(e.1),
+        }
     }
 }
 
@@ -36,7 +39,10 @@ pub impl From<(u32, MemoryRefusal)> for ReplayRefusal as ReplayFromMemory {
     ghost converts = { λ e r. (r .number ≡ e .0) × (r .inner ≡ Memory (e .1)) };
 
     fn from(e: (u32, MemoryRefusal)) -> ReplayRefusal {
-        ReplayRefusal { number: e.0, inner: Inner::Memory(e.1) }
+        ReplayRefusal {
+            number: e.0,
+            inner: Inner::Memory(e.1),
+        }
     }
 }
 

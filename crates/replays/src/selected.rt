@@ -15,9 +15,31 @@ pub fn call_of(record: Record) -> Call
     ensures { λ r. ⌜ r ≡ callOf «record» ⌝ }
 {
     match record {
-        Record::Map { space, page, count, object, offset, protection } => Call::Map { space, page, count, object, offset, protection },
+        Record::Map {
+            space,
+            page,
+            count,
+            object,
+            offset,
+            protection,
+        } => Call::Map {
+            space,
+            page,
+            count,
+            object,
+            offset,
+            protection,
+        },
         Record::Unmap { space, page } => Call::Unmap { space, page },
-        Record::Protect { space, page, protection } => Call::Protect { space, page, protection },
+        Record::Protect {
+            space,
+            page,
+            protection,
+        } => Call::Protect {
+            space,
+            page,
+            protection,
+        },
         Record::Read { space, page } => Call::Read { space, page },
         Record::Write { space, page, word } => Call::Write { space, page, word },
         Record::Wire { space, page } => Call::Wire { space, page },

@@ -44,7 +44,8 @@ fn drive<P: Pmap>(memory: &mut Memory<P>, calls: &[Call], replies: &mut Vec<Repl
 // Makes a memory of `frames` frames over the pmap, and gives it the calls. What the calls need is reserved before the first of
 // them, so that want of memory is an answer of the making alone.
 pub fn run<P: Pmap>(heap: Global, pmap: P, frames: u16, calls: &[Call]) -> Result<Ran<P>, Unmade<P>>
-    ensures { λ r. ⌜ elim r [ Ok x ↦ RunLaw frames (now (calls .entry)) (vec-items (x .replies)) (memoryState (view (x .memory .pmap)) (x .memory .tables) (x .memory .counts)) | Err e ↦ NotMade frames pmap e ] ⌝ }
+    ensures law { λ r. ⌜ elim r [ Ok x ↦ RunLaw frames (now (calls .entry)) (vec-items (x .replies)) (memoryState (view (x .memory .pmap)) (x .memory .tables) (x .memory .counts)) | Err e ↦ NotMade frames pmap e ] ⌝ }
+    ensures keeps { λ r. ⌜ elim r [ Ok x ↦ Ready (view (x .memory .pmap)) (memoryState (view (x .memory .pmap)) (x .memory .tables) (x .memory .counts)) × kept (x .memory .pmap) | Err e ↦ Unit {0} ] ⌝ }
 {
     if !fits_frames(frames) {
         return Err(Unmade::Refused(FileRefusal::Size, pmap));

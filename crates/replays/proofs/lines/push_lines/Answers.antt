@@ -42,15 +42,16 @@ step es rs i next past d lt is =
     at-drop-more (λ z. linesOf z (drop next rs)) es i d lt
     ∙ lines-cons (getD es i d) (drop (i + 1) es) (drop next rs)
     ∙ ap (λ z. outcomeLine (getD es i d .number) (outcomeOf (getD es i d) (nextReply (drop next rs))) ++ linesOf (drop (i + 1) es) z)
-        (drop-drop (used (getD es i d .content)) next rs ∙ ap (λ z. drop z rs) (sym is))
+    (drop-drop (used (getD es i d .content)) next rs ∙ ap (λ z. drop z rs) (sym is))
 
 pub loop-item-again : need.loop-item-again
 unfolding default
-loop-item-again c =
-    ( again _ _ _ _ _ _ _ (c .in-Continue-push-line .ensures tt) (ap (λ z. outcomeLine (getD (c .args .entries .now) (c .loop-item .item-index) default .number) (outcomeOf (getD (c .args .entries .now) (c .loop-item .item-index) default) z)) (c .reply-at .ensures))
-        (step (c .args .entries .now) (c .args .replies .now) (c .loop-item .item-index) (c .loop-item .next) (c .after-next .result) default (c .loop-item-test .taken) (c .after-next .ensures))
-        (c .loop-item .inv .0)
-    , past-most _ _ _ _ (c .loop-item .inv .1) (c .after-next .ensures) )
+loop-item-again c = (
+  again _ _ _ _ _ _ _ (c .in-Continue-push-line .ensures tt) (ap (λ z. outcomeLine (getD (c .args .entries .now) (c .loop-item .item-index) default .number) (outcomeOf (getD (c .args .entries .now) (c .loop-item .item-index) default) z)) (c .reply-at .ensures))
+      (step (c .args .entries .now) (c .args .replies .now) (c .loop-item .item-index) (c .loop-item .next) (c .after-next .result) default (c .loop-item-test .taken) (c .after-next .ensures))
+      (c .loop-item .inv .0),
+  past-most _ _ _ _ (c .loop-item .inv .1) (c .after-next .ensures),
+)
 
 pub returns : need.returns
 unfolding linesOf

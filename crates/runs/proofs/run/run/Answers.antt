@@ -26,4 +26,7 @@ pub returns : need.returns
 returns g c =
     let v = g .P·Pmap .view in
     let e = c .drive .last .memory in
-    run-law (c .args .frames) (c .args .calls .now) (vec-items (c .drive .last .replies)) (memoryState (v (e .pmap)) (e .tables) (e .counts)) (sym (c .if-not-fits-frames .ensures tt)) (c .drive .ensures .trail)
+    record {
+      law = run-law (c .args .frames) (c .args .calls .now) (vec-items (c .drive .last .replies)) (memoryState (v (e .pmap)) (e .tables) (e .counts)) (sym (c .if-not-fits-frames .ensures tt)) (c .drive .ensures .trail);
+      keeps = (c .drive .ensures .ready, c .drive .ensures .kept);
+    }
