@@ -1,5 +1,8 @@
 #!/usr/bin/env python3
-"""A replay written from docs/ alone, simple and slow: what the program `replay` prints of a trace.
+"""A replay, simple and slow: what the program `replay` prints of a trace.
+
+It shares no code with the proved program, but whoever wrote the definitions in specs/ wrote it too, from the same reading of the
+rules: a difference shows a slip in one of the two, and agreement does not show that the reading is right.
 
 usage: replay.py < TRACE
 """

@@ -1,11 +1,11 @@
 #!/usr/bin/env python3
-"""Packs the sample trace of the replay program, and writes the listing that its rules give.
+"""Packs the sample trace of the replay program, and writes the listing that is expected of it.
 
 usage: replay.py TRACE LISTING
 
 The trace, with one frame: map space 0 page 16 count 2 object 0 offset 0 protection 3; write page 16 word 7; read 17, 16, 16;
 read space 1 page 16; map space 1 page 16 count 1 object 0 offset 0 protection 1; read it; write it; write space 0 page 17 word 5.
-The listing is worked out by hand from docs/memory.md and stands below.
+The listing below was not computed here: it is the worked example that came with the rules of the memory.
 """
 import sys
 
