@@ -1,4 +1,7 @@
 // Reads a trace that is written as text from standard input, and writes its bytes to standard output.
+
+#![tactic(auto)]
+
 use anyhow::anyhow;
 use script::bytes::trace_bytes;
 use script::parse::{ParseError, parse};

@@ -1,4 +1,7 @@
 // Prints how many calls of access, enter and drop a second each board takes.
+
+#![tactic(auto)]
+
 use crate::timing::show;
 use anyhow::anyhow;
 use powerpc_pmap::hashed::Hashed;

@@ -1,5 +1,8 @@
 // Shows one mapping on both boards: where it stands in the tables, what a read and a write leave in the words, and that a
 // crowd of other pages drives it out while its frame stays modified.
+
+#![tactic(auto)]
+
 use crate::stop::Stop;
 use crowd::outcome::Outcome;
 use refusal::code::Refusal;

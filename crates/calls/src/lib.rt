@@ -1,4 +1,7 @@
 // The eight calls of the memory, as values: what a trace record spells and a run carries out.
+
+#![tactic(auto)]
+
 pub mod words;
 
 #[derive(Clone, Copy, PartialEq, Eq, Debug)]

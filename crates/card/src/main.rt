@@ -1,4 +1,7 @@
 // Carries out the field engineers' four checks on both boards and on the pile, and says in plain words what it saw.
+
+#![tactic(auto)]
+
 use crate::scripts::{POSITIONS, WORD, evicted_at, wired_and_crowded, written_and_crowded};
 use anyhow::anyhow;
 use calls::Call;

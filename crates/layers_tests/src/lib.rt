@@ -1,4 +1,7 @@
 // Tests of a pile of layers over the minimal pmap.
+
+#![tactic(auto)]
+
 #[cfg(test)]
 mod tests {
     use layers::offset::Offset;

@@ -1,4 +1,7 @@
 // Reads a trace from standard input and prints its records in words.
+
+#![tactic(auto)]
+
 use std::io;
 use std::io::Read;
 

@@ -1,4 +1,7 @@
 // The memory: resident pages over any pmap.
+
+#![tactic(auto)]
+
 mod accesses;
 pub mod calling;
 mod dispatch;

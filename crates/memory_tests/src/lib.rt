@@ -1,5 +1,8 @@
 // Tests of the memory over the least pmap that no trace can make: the limit of calls, which is above what a file can hold. The
 // other refusals are tested by traces, in crates/replay_checks.
+
+#![tactic(auto)]
+
 #[cfg(test)]
 mod tests {
     use calls::Call;

@@ -1,4 +1,7 @@
 // A layer that keeps beside any pmap which frames are modified, so that the question goes no further. It is a pmap itself.
+
+#![tactic(auto)]
+
 ghost use Rattle.std.specs.Prelude.{◌≡◌, true, false, slice_set};
 ghost use Rattle.pmap.specs.Meaning.{Cleared, Enters, Removes, Lowers, Drops, Unwires, Accesses, Unmarks};
 ghost use Rattle.noted.specs.Flags.{Tell, Kept, written, cleaned};

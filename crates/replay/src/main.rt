@@ -1,5 +1,8 @@
 // Reads a trace from standard input, replays it on an x86-64 board, a PowerPC board and a pile of layers over both, and prints
 // a block for each.
+
+#![tactic(auto)]
+
 use machines::text::replay_all;
 use std::io;
 use std::io::Read;

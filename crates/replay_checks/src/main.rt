@@ -1,5 +1,8 @@
 // Replays each trace of the folder that it is run in, and compares the text with the listing beside it, which the reference
 // program wrote. The file `names` has the names of the traces, one to a line.
+
+#![tactic(auto)]
+
 use machines::text::replay_all;
 use std::fs;
 
