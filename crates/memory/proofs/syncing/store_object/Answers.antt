@@ -7,7 +7,7 @@ use Rattle.memory.proofs.syncing.store_object.Goals as goal
 pub returns : goal.returns
 returns g c =
     let t = c.args.tables.now in
-    let before = c.deref-mut.ensures.value in
+    let before = c.deref_mut.ensures.value in
     record {
       stores = MatchResult-weaker c.store_pages.result c.store_pages.ensures.stores
           (λ n below. record {
