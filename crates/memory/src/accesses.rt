@@ -13,10 +13,10 @@ use rules::answer::{Reading, Report};
 impl<P: Pmap> Memory<P> {
     // The word of the place's object page.
     pub(crate) fn read_page(&mut self, space: u8, page: u32) -> Result<Reading, MemoryRefusal>
-        requires kept { kept self.old.pmap }
-        requires ready { Ready (view self.old.pmap) (memory_state (view self.old.pmap) self.old.tables self.old.counts) }
-        ensures serves { Serves (view self.old.pmap) (view self.new.pmap) (memory_state (view self.old.pmap) self.old.tables self.old.counts) (memory_state (view self.new.pmap) self.new.tables self.new.counts) (ReadCall space page) (read_reply result) }
-        ensures kept { kept self.new.pmap }
+        requires kept { P.kept self.old.pmap }
+        requires ready { Ready (P.view self.old.pmap) (memory_state (P.view self.old.pmap) self.old.tables self.old.counts) }
+        ensures serves { Serves (P.view self.old.pmap) (P.view self.new.pmap) (memory_state (P.view self.old.pmap) self.old.tables self.old.counts) (memory_state (P.view self.new.pmap) self.new.tables self.new.counts) (ReadCall space page) (read_reply result) }
+        ensures kept { P.kept self.new.pmap }
     {
         let reached = self.reach(space, page, false)?;
         let word = self.tables.word(reached.frame);
@@ -33,10 +33,10 @@ impl<P: Pmap> Memory<P> {
         page: u32,
         word: u32,
     ) -> Result<Report, MemoryRefusal>
-        requires kept { kept self.old.pmap }
-        requires ready { Ready (view self.old.pmap) (memory_state (view self.old.pmap) self.old.tables self.old.counts) }
-        ensures serves { Serves (view self.old.pmap) (view self.new.pmap) (memory_state (view self.old.pmap) self.old.tables self.old.counts) (memory_state (view self.new.pmap) self.new.tables self.new.counts) (WriteCall space page word) (wrote_reply result) }
-        ensures kept { kept self.new.pmap }
+        requires kept { P.kept self.old.pmap }
+        requires ready { Ready (P.view self.old.pmap) (memory_state (P.view self.old.pmap) self.old.tables self.old.counts) }
+        ensures serves { Serves (P.view self.old.pmap) (P.view self.new.pmap) (memory_state (P.view self.old.pmap) self.old.tables self.old.counts) (memory_state (P.view self.new.pmap) self.new.tables self.new.counts) (WriteCall space page word) (wrote_reply result) }
+        ensures kept { P.kept self.new.pmap }
     {
         let reached = self.reach(space, page, true)?;
         self.tables.write_word(reached.frame, word);

@@ -18,13 +18,13 @@ const CALL_LIMIT: u32 = 1_000_000;
 impl<P: Pmap> Memory<P> {
     // Carries out one call, or refuses it, and counts it.
     pub fn call(&mut self, call: Call) -> Reply
-        requires kept { kept self.old.pmap }
-        requires ready { Ready (view self.old.pmap) (memory_state (view self.old.pmap) self.old.tables self.old.counts) }
-        ensures answer { result ≡ reply_to (memory_state (view self.old.pmap) self.old.tables self.old.counts) call (hits (view self.old.pmap) call) }
-        ensures state { memory_state (view self.new.pmap) self.new.tables self.new.counts ≡ state_after (memory_state (view self.old.pmap) self.old.tables self.old.counts) call (hits (view self.old.pmap) call) }
-        ensures view { Leaves (view self.old.pmap) (view self.new.pmap) (memory_state (view self.old.pmap) self.old.tables self.old.counts) call (refusal_of (memory_state (view self.old.pmap) self.old.tables self.old.counts) call) }
-        ensures ready { Ready (view self.new.pmap) (memory_state (view self.new.pmap) self.new.tables self.new.counts) }
-        ensures kept { kept self.new.pmap }
+        requires kept { P.kept self.old.pmap }
+        requires ready { Ready (P.view self.old.pmap) (memory_state (P.view self.old.pmap) self.old.tables self.old.counts) }
+        ensures answer { result ≡ reply_to (memory_state (P.view self.old.pmap) self.old.tables self.old.counts) call (hits (P.view self.old.pmap) call) }
+        ensures state { memory_state (P.view self.new.pmap) self.new.tables self.new.counts ≡ state_after (memory_state (P.view self.old.pmap) self.old.tables self.old.counts) call (hits (P.view self.old.pmap) call) }
+        ensures view { Leaves (P.view self.old.pmap) (P.view self.new.pmap) (memory_state (P.view self.old.pmap) self.old.tables self.old.counts) call (refusal_of (memory_state (P.view self.old.pmap) self.old.tables self.old.counts) call) }
+        ensures ready { Ready (P.view self.new.pmap) (memory_state (P.view self.new.pmap) self.new.tables self.new.counts) }
+        ensures kept { P.kept self.new.pmap }
     {
         let counts = self.counts;
         if counts.calls >= CALL_LIMIT {

@@ -11,10 +11,10 @@ use rules::answer::{Answer, Reply};
 impl<P: Pmap> Memory<P> {
     // One call, not counted.
     pub(crate) fn serve(&mut self, call: Call) -> Reply
-        requires kept { kept self.old.pmap }
-        requires ready { Ready (view self.old.pmap) (memory_state (view self.old.pmap) self.old.tables self.old.counts) }
-        ensures serves { Serves (view self.old.pmap) (view self.new.pmap) (memory_state (view self.old.pmap) self.old.tables self.old.counts) (memory_state (view self.new.pmap) self.new.tables self.new.counts) call result }
-        ensures kept { kept self.new.pmap }
+        requires kept { P.kept self.old.pmap }
+        requires ready { Ready (P.view self.old.pmap) (memory_state (P.view self.old.pmap) self.old.tables self.old.counts) }
+        ensures serves { Serves (P.view self.old.pmap) (P.view self.new.pmap) (memory_state (P.view self.old.pmap) self.old.tables self.old.counts) (memory_state (P.view self.new.pmap) self.new.tables self.new.counts) call result }
+        ensures kept { P.kept self.new.pmap }
     {
         match call {
             Call::Map {

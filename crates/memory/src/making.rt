@@ -29,7 +29,7 @@ impl<P: Pmap> Memory<P> {
     // A new memory of `frames` frames: no region, no resident page, starting words in its backing store. All that
     // its calls need is allocated here.
     pub fn new(heap: Global, mut pmap: P, frames: u16) -> Result<Memory<P>, Unmade<P>>
-        ensures { elim result [ Ok m ↦ Made (view m.pmap) m.tables m.counts frames × kept m.pmap | Err e ↦ NotMade frames pmap e ] }
+        ensures { elim result [ Ok m ↦ Made (P.view m.pmap) m.tables m.counts frames × P.kept m.pmap | Err e ↦ NotMade frames pmap e ] }
     {
         if !fits_frames(frames) {
             return Err(Unmade::Refused(FileRefusal::Size, pmap));

@@ -15,9 +15,9 @@ use rules::answer::Evicted;
 impl<P: Pmap> Memory<P> {
     // Stores the word of a frame if it is modified, takes it out of the modified ones, and says whether it was.
     fn save_modified(&mut self, frame: u16) -> Result<bool, MemoryRefusal>
-        requires { (kept self.old.pmap) × ((frame < 256) × (slice_index self.old.tables.owners.items frame < 2048)) }
-        ensures saves { MatchResult result (λ b. Saves (view self.old.pmap) (view self.new.pmap) (memory_state (view self.old.pmap) self.old.tables self.old.counts) (memory_state (view self.new.pmap) self.new.tables self.new.counts) frame b) (λ _. ⊥) }
-        ensures kept { kept self.new.pmap }
+        requires { (P.kept self.old.pmap) × ((frame < 256) × (slice_index self.old.tables.owners.items frame < 2048)) }
+        ensures saves { MatchResult result (λ b. Saves (P.view self.old.pmap) (P.view self.new.pmap) (memory_state (P.view self.old.pmap) self.old.tables self.old.counts) (memory_state (P.view self.new.pmap) self.new.tables self.new.counts) frame b) (λ _. ⊥) }
+        ensures kept { P.kept self.new.pmap }
     {
         if !self.pmap.modified(frame)? {
             return Ok(false);
@@ -29,9 +29,9 @@ impl<P: Pmap> Memory<P> {
 
     // The page of the frame at a position of the queue goes.
     fn evict(&mut self, at: usize) -> Result<Evicted, MemoryRefusal>
-        requires { (kept self.old.pmap) × ((place (free self.old.tables.wired.items) self.old.tables.queue.items ≡ Some at) × ((at < vec_len self.old.tables.queue) × ((slice_index self.old.tables.queue.items at < 256) × (slice_index self.old.tables.owners.items (slice_index self.old.tables.queue.items at) < 2048)))) }
-        ensures evicts { MatchResult result (λ out. Evicts (view self.old.pmap) (view self.new.pmap) (memory_state (view self.old.pmap) self.old.tables self.old.counts) (memory_state (view self.new.pmap) self.new.tables self.new.counts) (slice_index self.old.tables.queue.items at) out) (λ _. ⊥) }
-        ensures kept { kept self.new.pmap }
+        requires { (P.kept self.old.pmap) × ((place (free self.old.tables.wired.items) self.old.tables.queue.items ≡ Some at) × ((at < vec_len self.old.tables.queue) × ((slice_index self.old.tables.queue.items at < 256) × (slice_index self.old.tables.owners.items (slice_index self.old.tables.queue.items at) < 2048)))) }
+        ensures evicts { MatchResult result (λ out. Evicts (P.view self.old.pmap) (P.view self.new.pmap) (memory_state (P.view self.old.pmap) self.old.tables self.old.counts) (memory_state (P.view self.new.pmap) self.new.tables self.new.counts) (slice_index self.old.tables.queue.items at) out) (λ _. ⊥) }
+        ensures kept { P.kept self.new.pmap }
     {
         let frame = self.tables.queue[at];
         let page = self.tables.owners[usize::from(frame)];
@@ -48,9 +48,9 @@ impl<P: Pmap> Memory<P> {
     // Has object page x resident: where it is not, it is loaded into an unused frame, the lowest first, else into that of the
     // page loaded longest ago whose frame is not wired.
     pub(crate) fn bring(&mut self, x: usize) -> Result<Brought, MemoryRefusal>
-        requires { (kept self.old.pmap) × ((Good (memory_state (view self.old.pmap) self.old.tables self.old.counts)) × (x < 2048)) }
-        ensures brings { MatchResult result (λ b. Brings (view self.old.pmap) (view self.new.pmap) (memory_state (view self.old.pmap) self.old.tables self.old.counts) (memory_state (view self.new.pmap) self.new.tables self.new.counts) x b.frame b.loaded b.evicted) (λ e. NoRoom (view self.old.pmap) (view self.new.pmap) (memory_state (view self.old.pmap) self.old.tables self.old.counts) (memory_state (view self.new.pmap) self.new.tables self.new.counts) x e) }
-        ensures kept { kept self.new.pmap }
+        requires { (P.kept self.old.pmap) × ((Good (memory_state (P.view self.old.pmap) self.old.tables self.old.counts)) × (x < 2048)) }
+        ensures brings { MatchResult result (λ b. Brings (P.view self.old.pmap) (P.view self.new.pmap) (memory_state (P.view self.old.pmap) self.old.tables self.old.counts) (memory_state (P.view self.new.pmap) self.new.tables self.new.counts) x b.frame b.loaded b.evicted) (λ e. NoRoom (P.view self.old.pmap) (P.view self.new.pmap) (memory_state (P.view self.old.pmap) self.old.tables self.old.counts) (memory_state (P.view self.new.pmap) self.new.tables self.new.counts) x e) }
+        ensures kept { P.kept self.new.pmap }
     {
         if let Some(frame) = self.tables.frame_of(x) {
             return Ok(Brought {

@@ -25,14 +25,14 @@ impl<P: Pmap> Memory<P> {
         page: u32,
         write: bool,
     ) -> Result<Reached, MemoryRefusal>
-        requires kept { kept self.old.pmap }
-        requires ready { Ready (view self.old.pmap) (memory_state (view self.old.pmap) self.old.tables self.old.counts) }
+        requires kept { P.kept self.old.pmap }
+        requires ready { Ready (P.view self.old.pmap) (memory_state (P.view self.old.pmap) self.old.tables self.old.counts) }
         requires place { fits_place space page ≡ true }
         requires covers { covering self.old.tables.regions.items space page ≡ Some region }
         requires right { write ≡ true → region.protection ≡ 3 }
-        requires missed { serves ((view self.old.pmap).held space page) write ≡ false }
-        ensures reaches { MatchResult result (λ x. Reaches (view self.old.pmap) (view self.new.pmap) (memory_state (view self.old.pmap) self.old.tables self.old.counts) (memory_state (view self.new.pmap) self.new.tables self.new.counts) space page write x.frame x.report) (λ e. NoRoom (view self.old.pmap) (view self.new.pmap) (memory_state (view self.old.pmap) self.old.tables self.old.counts) (memory_state (view self.new.pmap) self.new.tables self.new.counts) (page_in region page) e) }
-        ensures kept { kept self.new.pmap }
+        requires missed { serves ((P.view self.old.pmap).held space page) write ≡ false }
+        ensures reaches { MatchResult result (λ x. Reaches (P.view self.old.pmap) (P.view self.new.pmap) (memory_state (P.view self.old.pmap) self.old.tables self.old.counts) (memory_state (P.view self.new.pmap) self.new.tables self.new.counts) space page write x.frame x.report) (λ e. NoRoom (P.view self.old.pmap) (P.view self.new.pmap) (memory_state (P.view self.old.pmap) self.old.tables self.old.counts) (memory_state (P.view self.new.pmap) self.new.tables self.new.counts) (page_in region page) e) }
+        ensures kept { P.kept self.new.pmap }
     {
         let brought = self.bring(object_page(&region, page))?;
         self.pmap
@@ -61,10 +61,10 @@ impl<P: Pmap> Memory<P> {
         page: u32,
         write: bool,
     ) -> Result<Reached, MemoryRefusal>
-        requires kept { kept self.old.pmap }
-        requires ready { Ready (view self.old.pmap) (memory_state (view self.old.pmap) self.old.tables self.old.counts) }
-        ensures reaches { MatchResult result (λ x. (access_refusal (memory_state (view self.old.pmap) self.old.tables self.old.counts) space page write ≡ None) × Reaches (view self.old.pmap) (view self.new.pmap) (memory_state (view self.old.pmap) self.old.tables self.old.counts) (memory_state (view self.new.pmap) self.new.tables self.new.counts) space page write x.frame x.report) (λ e. (access_refusal (memory_state (view self.old.pmap) self.old.tables self.old.counts) space page write ≡ Some e) × Unmoved (view self.old.pmap) (view self.new.pmap) (memory_state (view self.old.pmap) self.old.tables self.old.counts) (memory_state (view self.new.pmap) self.new.tables self.new.counts)) }
-        ensures kept { kept self.new.pmap }
+        requires kept { P.kept self.old.pmap }
+        requires ready { Ready (P.view self.old.pmap) (memory_state (P.view self.old.pmap) self.old.tables self.old.counts) }
+        ensures reaches { MatchResult result (λ x. (access_refusal (memory_state (P.view self.old.pmap) self.old.tables self.old.counts) space page write ≡ None) × Reaches (P.view self.old.pmap) (P.view self.new.pmap) (memory_state (P.view self.old.pmap) self.old.tables self.old.counts) (memory_state (P.view self.new.pmap) self.new.tables self.new.counts) space page write x.frame x.report) (λ e. (access_refusal (memory_state (P.view self.old.pmap) self.old.tables self.old.counts) space page write ≡ Some e) × Unmoved (P.view self.old.pmap) (P.view self.new.pmap) (memory_state (P.view self.old.pmap) self.old.tables self.old.counts) (memory_state (P.view self.new.pmap) self.new.tables self.new.counts)) }
+        ensures kept { P.kept self.new.pmap }
     {
         if !fits_place(space, page) {
             return Err(MemoryRefusal::Range);

@@ -41,10 +41,10 @@ fn restrict_region<P: Pmap>(
     region: &Region,
     protection: u8,
 ) -> Result<(), PmapRefusal>
-    requires { (kept pmap.old) × (RegionFits region.now) }
+    requires { (P.kept pmap.old) × (RegionFits region.now) }
     ensures passes { is_ok result ≡ true }
-    ensures restricted { Restricts (view pmap.old) (view pmap.new) region.now protection }
-    ensures kept { kept pmap.new }
+    ensures restricted { Restricts (P.view pmap.old) (P.view pmap.new) region.now protection }
+    ensures kept { P.kept pmap.new }
 {
     if protection != 1 {
         return Ok(());
@@ -63,9 +63,9 @@ impl<P: Pmap> Memory<P> {
         offset: u8,
         protection: u8,
     ) -> Result<(), MemoryRefusal>
-        requires { (kept self.old.pmap) × (Ready (view self.old.pmap) (memory_state (view self.old.pmap) self.old.tables self.old.counts)) }
-        ensures serves { Serves (view self.old.pmap) (view self.new.pmap) (memory_state (view self.old.pmap) self.old.tables self.old.counts) (memory_state (view self.new.pmap) self.new.tables self.new.counts) (Map space page count object offset protection) (done_reply result) }
-        ensures kept { kept self.new.pmap }
+        requires { (P.kept self.old.pmap) × (Ready (P.view self.old.pmap) (memory_state (P.view self.old.pmap) self.old.tables self.old.counts)) }
+        ensures serves { Serves (P.view self.old.pmap) (P.view self.new.pmap) (memory_state (P.view self.old.pmap) self.old.tables self.old.counts) (memory_state (P.view self.new.pmap) self.new.tables self.new.counts) (Map space page count object offset protection) (done_reply result) }
+        ensures kept { P.kept self.new.pmap }
     {
         if !fits_map(space, page, count, object, offset, protection) {
             return Err(MemoryRefusal::Range);
@@ -89,7 +89,7 @@ impl<P: Pmap> Memory<P> {
 
     // The position of the region that begins at a page, if it has no wired place.
     fn region_free(&self, space: u8, page: u32) -> Result<usize, MemoryRefusal>
-        ensures { MatchResult result (λ at. FreeAt (memory_state (view self.now.pmap) self.now.tables self.now.counts) space page at) (λ e. region_refusal (memory_state (view self.now.pmap) self.now.tables self.now.counts) (first_of (begins space page) (memory_state (view self.now.pmap) self.now.tables self.now.counts).regions) ≡ Some e) }
+        ensures { MatchResult result (λ at. FreeAt (memory_state (P.view self.now.pmap) self.now.tables self.now.counts) space page at) (λ e. region_refusal (memory_state (P.view self.now.pmap) self.now.tables self.now.counts) (first_of (begins space page) (memory_state (P.view self.now.pmap) self.now.tables self.now.counts).regions) ≡ Some e) }
     {
         let Some(at) = self.tables.region_at(space, page) else {
             return Err(MemoryRefusal::NoRegion);
@@ -102,9 +102,9 @@ impl<P: Pmap> Memory<P> {
 
     // Removes a region and the mappings of its pages.
     pub(crate) fn unmap_region(&mut self, space: u8, page: u32) -> Result<(), MemoryRefusal>
-        requires { (kept self.old.pmap) × (Ready (view self.old.pmap) (memory_state (view self.old.pmap) self.old.tables self.old.counts)) }
-        ensures serves { Serves (view self.old.pmap) (view self.new.pmap) (memory_state (view self.old.pmap) self.old.tables self.old.counts) (memory_state (view self.new.pmap) self.new.tables self.new.counts) (Unmap space page) (done_reply result) }
-        ensures kept { kept self.new.pmap }
+        requires { (P.kept self.old.pmap) × (Ready (P.view self.old.pmap) (memory_state (P.view self.old.pmap) self.old.tables self.old.counts)) }
+        ensures serves { Serves (P.view self.old.pmap) (P.view self.new.pmap) (memory_state (P.view self.old.pmap) self.old.tables self.old.counts) (memory_state (P.view self.new.pmap) self.new.tables self.new.counts) (Unmap space page) (done_reply result) }
+        ensures kept { P.kept self.new.pmap }
     {
         if !fits_place(space, page) {
             return Err(MemoryRefusal::Range);
@@ -123,9 +123,9 @@ impl<P: Pmap> Memory<P> {
         page: u32,
         protection: u8,
     ) -> Result<(), MemoryRefusal>
-        requires { (kept self.old.pmap) × (Ready (view self.old.pmap) (memory_state (view self.old.pmap) self.old.tables self.old.counts)) }
-        ensures serves { Serves (view self.old.pmap) (view self.new.pmap) (memory_state (view self.old.pmap) self.old.tables self.old.counts) (memory_state (view self.new.pmap) self.new.tables self.new.counts) (Protect space page protection) (done_reply result) }
-        ensures kept { kept self.new.pmap }
+        requires { (P.kept self.old.pmap) × (Ready (P.view self.old.pmap) (memory_state (P.view self.old.pmap) self.old.tables self.old.counts)) }
+        ensures serves { Serves (P.view self.old.pmap) (P.view self.new.pmap) (memory_state (P.view self.old.pmap) self.old.tables self.old.counts) (memory_state (P.view self.new.pmap) self.new.tables self.new.counts) (Protect space page protection) (done_reply result) }
+        ensures kept { P.kept self.new.pmap }
     {
         if !fits_protect(space, page, protection) {
             return Err(MemoryRefusal::Range);

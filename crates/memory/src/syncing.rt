@@ -15,9 +15,9 @@ use tables::table::Tables;
 
 // The same at the tables of a memory.
 fn store_object<P: Pmap>(object: u8, pmap: &mut P, tables: &mut Tables) -> Result<u32, PmapRefusal>
-    requires { (kept pmap.old) × (OnePageEach tables.old.lies.items) }
-    ensures stores { MatchResult result (λ n. StoresObject (view pmap.old) (view pmap.new) tables.old tables.new object n) (λ _. ⊥) }
-    ensures kept { kept pmap.new }
+    requires { (P.kept pmap.old) × (OnePageEach tables.old.lies.items) }
+    ensures stores { MatchResult result (λ n. StoresObject (P.view pmap.old) (P.view pmap.new) tables.old tables.new object n) (λ _. ⊥) }
+    ensures kept { P.kept pmap.new }
 {
     store_pages(&tables.lies, object, pmap, &tables.words, &mut tables.store)
 }
@@ -25,9 +25,9 @@ fn store_object<P: Pmap>(object: u8, pmap: &mut P, tables: &mut Tables) -> Resul
 impl<P: Pmap> Memory<P> {
     // Stores the modified pages of an object, and says how many there were.
     pub(crate) fn sync_object(&mut self, object: u8) -> Result<u32, MemoryRefusal>
-        requires { (kept self.old.pmap) × (Ready (view self.old.pmap) (memory_state (view self.old.pmap) self.old.tables self.old.counts)) }
-        ensures serves { Serves (view self.old.pmap) (view self.new.pmap) (memory_state (view self.old.pmap) self.old.tables self.old.counts) (memory_state (view self.new.pmap) self.new.tables self.new.counts) (Sync object) (synced_reply result) }
-        ensures kept { kept self.new.pmap }
+        requires { (P.kept self.old.pmap) × (Ready (P.view self.old.pmap) (memory_state (P.view self.old.pmap) self.old.tables self.old.counts)) }
+        ensures serves { Serves (P.view self.old.pmap) (P.view self.new.pmap) (memory_state (P.view self.old.pmap) self.old.tables self.old.counts) (memory_state (P.view self.new.pmap) self.new.tables self.new.counts) (Sync object) (synced_reply result) }
+        ensures kept { P.kept self.new.pmap }
     {
         if object >= 8 {
             return Err(MemoryRefusal::Range);

@@ -12,9 +12,9 @@ use refusal::memory::MemoryRefusal;
 impl<P: Pmap> Memory<P> {
     // Takes the wired mark off at a place.
     pub(crate) fn unwire_place(&mut self, space: u8, page: u32) -> Result<(), MemoryRefusal>
-        requires { (kept self.old.pmap) × (Ready (view self.old.pmap) (memory_state (view self.old.pmap) self.old.tables self.old.counts)) }
-        ensures serves { Serves (view self.old.pmap) (view self.new.pmap) (memory_state (view self.old.pmap) self.old.tables self.old.counts) (memory_state (view self.new.pmap) self.new.tables self.new.counts) (Unwire space page) (done_reply result) }
-        ensures kept { kept self.new.pmap }
+        requires { (P.kept self.old.pmap) × (Ready (P.view self.old.pmap) (memory_state (P.view self.old.pmap) self.old.tables self.old.counts)) }
+        ensures serves { Serves (P.view self.old.pmap) (P.view self.new.pmap) (memory_state (P.view self.old.pmap) self.old.tables self.old.counts) (memory_state (P.view self.new.pmap) self.new.tables self.new.counts) (Unwire space page) (done_reply result) }
+        ensures kept { P.kept self.new.pmap }
     {
         if !fits_place(space, page) {
             return Err(MemoryRefusal::Range);

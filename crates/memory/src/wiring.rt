@@ -19,10 +19,10 @@ const WIRED_PLACES: usize = 8;
 impl<P: Pmap> Memory<P> {
     // Brings the place's object page in and enters a wired mapping of it.
     pub(crate) fn wire_place(&mut self, space: u8, page: u32) -> Result<Wiring, MemoryRefusal>
-        requires kept { kept self.old.pmap }
-        requires ready { Ready (view self.old.pmap) (memory_state (view self.old.pmap) self.old.tables self.old.counts) }
-        ensures serves { Serves (view self.old.pmap) (view self.new.pmap) (memory_state (view self.old.pmap) self.old.tables self.old.counts) (memory_state (view self.new.pmap) self.new.tables self.new.counts) (WireCall space page) (wired_reply result) }
-        ensures kept { kept self.new.pmap }
+        requires kept { P.kept self.old.pmap }
+        requires ready { Ready (P.view self.old.pmap) (memory_state (P.view self.old.pmap) self.old.tables self.old.counts) }
+        ensures serves { Serves (P.view self.old.pmap) (P.view self.new.pmap) (memory_state (P.view self.old.pmap) self.old.tables self.old.counts) (memory_state (P.view self.new.pmap) self.new.tables self.new.counts) (WireCall space page) (wired_reply result) }
+        ensures kept { P.kept self.new.pmap }
     {
         if !fits_place(space, page) {
             return Err(MemoryRefusal::Range);

@@ -14,10 +14,10 @@ pub fn remove_pages<P: Pmap>(
     first: u32,
     count: u16,
 ) -> Result<(), PmapRefusal>
-    requires { (kept pmap.old) × ((space < 4) × (first + count ≤ 262144)) }
+    requires { (P.kept pmap.old) × ((space < 4) × (first + count ≤ 262144)) }
     ensures passes { is_ok result ≡ true }
-    ensures removed { Over nothing (view pmap.old) (view pmap.new) space first count }
-    ensures kept { kept pmap.new }
+    ensures removed { Over nothing (P.view pmap.old) (P.view pmap.new) space first count }
+    ensures kept { P.kept pmap.new }
 {
     for page in first..first + u32::from(count) {
         pmap.remove(space, page)?;
@@ -32,10 +32,10 @@ pub fn lower_pages<P: Pmap>(
     first: u32,
     count: u16,
 ) -> Result<(), PmapRefusal>
-    requires { (kept pmap.old) × ((space < 4) × (first + count ≤ 262144)) }
+    requires { (P.kept pmap.old) × ((space < 4) × (first + count ≤ 262144)) }
     ensures passes { is_ok result ≡ true }
-    ensures lowered { Over lowered (view pmap.old) (view pmap.new) space first count }
-    ensures kept { kept pmap.new }
+    ensures lowered { Over lowered (P.view pmap.old) (P.view pmap.new) space first count }
+    ensures kept { P.kept pmap.new }
 {
     for page in first..first + u32::from(count) {
         pmap.lower(space, page)?;
@@ -52,9 +52,9 @@ pub fn store_page<P: Pmap>(
     words: &[u32],
     store: &mut [u32],
 ) -> Result<bool, PmapRefusal>
-    requires { (kept pmap.old) × ((x < length store.old) × ((length words.now ≡ 256) × (((f : ℕ) → page ≡ Some f → f < 256)))) }
-    ensures stores { MatchResult result (λ b. StoresOne (view pmap.old) (view pmap.new) store.old store.new words.now object x page b) (λ _. ⊥) }
-    ensures kept { kept pmap.new }
+    requires { (P.kept pmap.old) × ((x < length store.old) × ((length words.now ≡ 256) × (((f : ℕ) → page ≡ Some f → f < 256)))) }
+    ensures stores { MatchResult result (λ b. StoresOne (P.view pmap.old) (P.view pmap.new) store.old store.new words.now object x page b) (λ _. ⊥) }
+    ensures kept { P.kept pmap.new }
 {
     if x / 256 != usize::from(object) {
         return Ok(false);
@@ -78,9 +78,9 @@ pub fn store_pages<P: Pmap>(
     words: &[u32],
     store: &mut [u32],
 ) -> Result<u32, PmapRefusal>
-    requires { (kept pmap.old) × ((length records.now ≡ 2048) × ((length store.old ≡ 2048) × ((length words.now ≡ 256) × (OnePageEach records.now)))) }
-    ensures stores { MatchResult result (λ n. StoresBelow (view pmap.old) (view pmap.new) store.old store.new words.now records.now object 2048 n) (λ _. ⊥) }
-    ensures kept { kept pmap.new }
+    requires { (P.kept pmap.old) × ((length records.now ≡ 2048) × ((length store.old ≡ 2048) × ((length words.now ≡ 256) × (OnePageEach records.now)))) }
+    ensures stores { MatchResult result (λ n. StoresBelow (P.view pmap.old) (P.view pmap.new) store.old store.new words.now records.now object 2048 n) (λ _. ⊥) }
+    ensures kept { P.kept pmap.new }
 {
     let mut stored: u32 = 0;
     for (x, page) in records.iter().enumerate() {

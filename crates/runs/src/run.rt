@@ -21,14 +21,14 @@ pub struct Ran<P: Pmap> {
 
 // Gives the memory each call in turn. The replies have their place reserved.
 fn drive<P: Pmap>(memory: &mut Memory<P>, calls: &[Call], replies: &mut Vec<Reply>, frames: u16)
-    requires kept { kept memory.old.pmap }
-    requires ready { Ready (view memory.old.pmap) (memory_state (view memory.old.pmap) memory.old.tables memory.old.counts) }
-    requires begun { Trail frames [] replies.old.items (memory_state (view memory.old.pmap) memory.old.tables memory.old.counts) }
+    requires kept { P.kept memory.old.pmap }
+    requires ready { Ready (P.view memory.old.pmap) (memory_state (P.view memory.old.pmap) memory.old.tables memory.old.counts) }
+    requires begun { Trail frames [] replies.old.items (memory_state (P.view memory.old.pmap) memory.old.tables memory.old.counts) }
     requires empty { vec_len replies.old ≡ 0 }
     requires room { length calls.now ≤ vec_capacity replies.old }
-    ensures trail { Trail frames calls.now replies.new.items (memory_state (view memory.new.pmap) memory.new.tables memory.new.counts) }
-    ensures ready { Ready (view memory.new.pmap) (memory_state (view memory.new.pmap) memory.new.tables memory.new.counts) }
-    ensures kept { kept memory.new.pmap }
+    ensures trail { Trail frames calls.now replies.new.items (memory_state (P.view memory.new.pmap) memory.new.tables memory.new.counts) }
+    ensures ready { Ready (P.view memory.new.pmap) (memory_state (P.view memory.new.pmap) memory.new.tables memory.new.counts) }
+    ensures kept { P.kept memory.new.pmap }
 {
     for call in calls {
         let reply = memory.call(*call);
@@ -39,8 +39,8 @@ fn drive<P: Pmap>(memory: &mut Memory<P>, calls: &[Call], replies: &mut Vec<Repl
 // Makes a memory of `frames` frames over the pmap, and gives it the calls. What the calls need is reserved before the first of
 // them, so that want of memory is an answer of the making alone.
 pub fn run<P: Pmap>(heap: Global, pmap: P, frames: u16, calls: &[Call]) -> Result<Ran<P>, Unmade<P>>
-    ensures law { elim result [ Ok x ↦ RunLaw frames calls.now x.replies.items (memory_state (view x.memory.pmap) x.memory.tables x.memory.counts) | Err e ↦ NotMade frames pmap e ] }
-    ensures keeps { elim result [ Ok x ↦ Ready (view x.memory.pmap) (memory_state (view x.memory.pmap) x.memory.tables x.memory.counts) × kept x.memory.pmap | Err e ↦ Unit {0} ] }
+    ensures law { elim result [ Ok x ↦ RunLaw frames calls.now x.replies.items (memory_state (P.view x.memory.pmap) x.memory.tables x.memory.counts) | Err e ↦ NotMade frames pmap e ] }
+    ensures keeps { elim result [ Ok x ↦ Ready (P.view x.memory.pmap) (memory_state (P.view x.memory.pmap) x.memory.tables x.memory.counts) × P.kept x.memory.pmap | Err e ↦ Unit {0} ] }
 {
     if !fits_frames(frames) {
         return Err(Unmade::Refused(FileRefusal::Size, pmap));

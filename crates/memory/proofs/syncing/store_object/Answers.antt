@@ -7,15 +7,15 @@ use Rattle.memory.proofs.syncing.store_object.Goals as goal
 pub returns : goal.returns
 returns g c =
     let t = c.args.tables.now in
-    let before = c.deref-mut.ensures.value in
+    let before = c.deref_mut.ensures.value in
     record {
-      stores = MatchResult-weaker c.store-pages.result c.store-pages.ensures.stores
+      stores = MatchResult-weaker c.store_pages.result c.store_pages.ensures.stores
           (λ n below. record {
             pages = stores_moved _ _ _ _ _ _ _ _ _ _ _ _ _ before
-                (sym (with_items_is t.store c.store-pages.new.store (below.long ∙ ap length before ∙ sym t.store.ok.0)))
+                (sym (with_items_is t.store c.store_pages.new.store (below.long ∙ ap length before ∙ sym t.store.ok.0)))
                 c.deref-2.ensures.value c.deref.ensures.value below;
             rest = λ d k. refl;
           })
           (λ _ e. e);
-      kept = c.store-pages.ensures.kept;
+      kept = c.store_pages.ensures.kept;
     }

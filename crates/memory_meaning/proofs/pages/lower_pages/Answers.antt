@@ -15,7 +15,7 @@ loop-page-preserved g c =
     let p = c.loop-page.page in
     let f = c.args.first in
     let step : p + 1 - f ≡ p - f + 1 = omega arith in (
-      c.in-ok-lower.ensures.kept,
+      c.in_ok-lower.ensures.kept,
       rw step (over_more lowered (v c.args.pmap.now) c.args.space f (v c.loop-page.pmap) (v c.lower.new.self) (p - f) p
-          c.loop-page.invariant.1 (omega arith) c.in-ok-lower.ensures.meaning.1),
+          c.loop-page.invariant.1 (omega arith) c.in_ok-lower.ensures.meaning.1),
     )

@@ -15,7 +15,7 @@ loop-page-preserved g c =
     let p = c.loop-page.page in
     let f = c.args.first in
     let step : p + 1 - f ≡ p - f + 1 = omega arith in (
-      c.in-ok-remove.ensures.kept,
+      c.in_ok-remove.ensures.kept,
       rw step (over_more nothing (v c.args.pmap.now) c.args.space f (v c.loop-page.pmap) (v c.remove.new.self) (p - f) p
-          c.loop-page.invariant.1 (omega arith) c.in-ok-remove.ensures.meaning.1),
+          c.loop-page.invariant.1 (omega arith) c.in_ok-remove.ensures.meaning.1),
     )

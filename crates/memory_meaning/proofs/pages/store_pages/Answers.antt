@@ -8,12 +8,12 @@ pub loop-x-init : goal.loop-x-init
 loop-x-init g c =
     (c.requires.0, stores_none (g.P.Pmap.view c.args.pmap.now) c.args.store.now c.args.words.now c.args.records.now c.args.object, omega arith)
 
-pub store-page-requires : goal.store-page-requires
-store-page-requires g c =
+pub store_page-requires : goal.store_page-requires
+store_page-requires g c =
     (c.loop-x.invariant.0, (omega arith, (c.requires.1.1.1.0, λ f e. c.requires.1.1.1.1.fits c.loop-x.x f e)))
 
-pub overflow-add-stored : goal.overflow-add-stored
-overflow-add-stored g c = omega arith
+pub overflow_add-stored : goal.overflow_add-stored
+overflow_add-stored g c = omega arith
 
 at_most : (n x : ℕ) (b : Bool) → n ≤ x → n + cond b 1 0 ≤ x + 1
 at_most n x true h = omega arith
@@ -23,16 +23,16 @@ pub loop-x-preserved : goal.loop-x-preserved
 loop-x-preserved g c =
     let v = g.P.Pmap.view in
     let step = stores_more (v c.args.pmap.now) c.args.store.now c.args.words.now c.args.records.now c.args.object c.requires.1.1.1.1
-    (v c.loop-x.pmap) (v c.store-page.new.pmap) c.loop-x.store c.store-page.new.store c.loop-x.x c.loop-x.stored c.loop-x.invariant.1
-    c.in-ok-store-page.field-0 c.in-ok-store-page.ensures.stores (omega arith) in
-    let same : c.if-branch.stored ≡ c.loop-x.stored + cond c.in-ok-store-page.field-0 1 0 =
+    (v c.loop-x.pmap) (v c.store_page.new.pmap) c.loop-x.store c.store_page.new.store c.loop-x.x c.loop-x.stored c.loop-x.invariant.1
+    c.in_ok-store_page.field-0 c.in_ok-store_page.ensures.stores (omega arith) in
+    let same : c.if-branch.stored ≡ c.loop-x.stored + cond c.in_ok-store_page.field-0 1 0 =
     elim c.if-branch.branch [
       | then-branch w ↦ w.stored-is ∙ ap (λ z. c.loop-x.stored + cond z 1 0) (sym w.if-branch.true)
       | else-branch w ↦ w.stored-is ∙ sym (add-zero c.loop-x.stored) ∙ ap (λ z. c.loop-x.stored + cond z 1 0) (sym w.if-branch.false)
     ] in (
-      c.in-ok-store-page.ensures.kept,
+      c.in_ok-store_page.ensures.kept,
       rw same step,
-      rw same (at_most c.loop-x.stored c.loop-x.x c.in-ok-store-page.field-0 c.loop-x.invariant.2),
+      rw same (at_most c.loop-x.stored c.loop-x.x c.in_ok-store_page.field-0 c.loop-x.invariant.2),
     )
 
 pub returns : goal.returns

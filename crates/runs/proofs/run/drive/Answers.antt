@@ -26,10 +26,10 @@ loop-call-preserved g c =
     (may_say (v m.pmap) s call c.loop-call.invariant.1) c.call-reply.ensures.answer c.call-reply.ensures.state in (
       c.call-reply.ensures.kept,
       c.call-reply.ensures.ready,
-      subst (λ z. Trail c.args.frames z (vec_items c.push-reserved.new.self) t) (sym (take_more calls i (Map 0 0 0 0 0 0) lt))
-          (subst (λ z. Trail c.args.frames (take i calls ++ (call ∷ [])) z t) (sym c.push-reserved.ensures.items) more),
-      c.push-reserved.ensures.len ∙ ap (λ z. z + 1) c.loop-call.invariant.3,
-      omega (arith, c.push-reserved.ensures.capacity, c.loop-call.invariant.4),
+      subst (λ z. Trail c.args.frames z (vec_items c.push_reserved.new.self) t) (sym (take_more calls i (Map 0 0 0 0 0 0) lt))
+          (subst (λ z. Trail c.args.frames (take i calls ++ (call ∷ [])) z t) (sym c.push_reserved.ensures.items) more),
+      c.push_reserved.ensures.len ∙ ap (λ z. z + 1) c.loop-call.invariant.3,
+      omega (arith, c.push_reserved.ensures.capacity, c.loop-call.invariant.4),
     )
 
 pub returns : goal.returns

@@ -7,8 +7,8 @@ use Rattle.runs.proofs.run.run.Goals as goal
 pub drive-requires : goal.drive-requires
 drive-requires g c =
     let v = g.P.Pmap.view in
-    let m = c.in-ok-memory.memory in
-    let made = c.in-ok-memory.ensures in
+    let m = c.in_ok-memory.memory in
+    let made = c.in_ok-memory.ensures in
     let new = c.in-Ok.ensures in
     record {
       kept = made.1;
@@ -24,6 +24,6 @@ returns g c =
     let v = g.P.Pmap.view in
     let e = c.drive.new.memory in
     record {
-      law = run_law c.args.frames c.args.calls.now (vec_items c.drive.new.replies) (memory_state (v e.pmap) e.tables e.counts) (sym c.if-not-fits-frames.ensures) c.drive.ensures.trail;
+      law = run_law c.args.frames c.args.calls.now (vec_items c.drive.new.replies) (memory_state (v e.pmap) e.tables e.counts) (sym c.if-not-fits_frames.ensures) c.drive.ensures.trail;
       keeps = (c.drive.ensures.ready, c.drive.ensures.kept);
     }

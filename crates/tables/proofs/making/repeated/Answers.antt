@@ -11,7 +11,7 @@ resized n len v xs e z =
 
 pub returns : goal.returns
 returns g c = record {
-  items = c.in-ok-resize.ensures.items
+  items = c.in_ok-resize.ensures.items
       ∙ resized c.args.count _ c.args.value _ c.new-v.ensures.items c.new-v.ensures.len;
-  len = c.in-ok-resize.ensures.len;
+  len = c.in_ok-resize.ensures.len;
 }

@@ -11,7 +11,7 @@ counting_more n =
 
 pub loop-x-preserved : goal.loop-x-preserved
 loop-x-preserved c =
-    c.in-ok-push.ensures.items ∙ ap (λ xs. xs ++ (c.loop-x.x ∷ [])) c.loop-x.invariant ∙ counting_more c.loop-x.x
+    c.in_ok-push.ensures.items ∙ ap (λ xs. xs ++ (c.loop-x.x ∷ [])) c.loop-x.invariant ∙ counting_more c.loop-x.x
 
 pub returns : goal.returns
 unfolding starting_words

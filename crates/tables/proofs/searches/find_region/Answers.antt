@@ -4,12 +4,12 @@ use Rattle.rules.proofs.Lists.{place_at, place_none, any_none}
 use Rattle.tables.proofs.Blank.{no_region}
 use Rattle.tables.proofs.searches.find_region.Goals as goal
 
-pub returns-then-is-begin : goal.returns-then-is-begin
-returns-then-is-begin c =
-    sym (place_at (begins c.args.space c.args.page) c.args.regions.now c.loop-i.i no_region (omega arith) c.loop-i.invariant (sym c.if-is-begin.ensures))
+pub returns-then-is_begin : goal.returns-then-is_begin
+returns-then-is_begin c =
+    sym (place_at (begins c.args.space c.args.page) c.args.regions.now c.loop-i.i no_region (omega arith) c.loop-i.invariant (sym c.if-is_begin.ensures))
 
 pub loop-i-preserved : goal.loop-i-preserved
-loop-i-preserved c = below_more _ _ c.loop-i.invariant (sym c.if-is-begin.ensures)
+loop-i-preserved c = below_more _ _ c.loop-i.invariant (sym c.if-is_begin.ensures)
 
 pub returns : goal.returns
 returns c =

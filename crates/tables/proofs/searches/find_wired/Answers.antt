@@ -4,12 +4,12 @@ use Rattle.rules.proofs.Lists.{place_at, place_none, any_none}
 use Rattle.tables.proofs.Blank.{no_place}
 use Rattle.tables.proofs.searches.find_wired.Goals as goal
 
-pub returns-then-is-place : goal.returns-then-is-place
-returns-then-is-place c =
-    sym (place_at (is_place c.args.space c.args.page) c.args.wired.now c.loop-i.i no_place (omega arith) c.loop-i.invariant (sym c.if-is-place.ensures))
+pub returns-then-is_place : goal.returns-then-is_place
+returns-then-is_place c =
+    sym (place_at (is_place c.args.space c.args.page) c.args.wired.now c.loop-i.i no_place (omega arith) c.loop-i.invariant (sym c.if-is_place.ensures))
 
 pub loop-i-preserved : goal.loop-i-preserved
-loop-i-preserved c = below_more _ _ c.loop-i.invariant (sym c.if-is-place.ensures)
+loop-i-preserved c = below_more _ _ c.loop-i.invariant (sym c.if-is_place.ensures)
 
 pub returns : goal.returns
 returns c =

@@ -17,17 +17,17 @@ returns-then-used-from g c =
     let is = c.load.ensures (v m.pmap).modified m.counts ∙ ap (load s c.args.x) n in
     record {
       brings = subst (λ z. Brings (v m.pmap) (v m.pmap) s (memory_state (v m.pmap) c.load.new.self m.counts) c.args.x z _ _) (sym n)
-          (brings_unused (v m.pmap) s c.args.x c.requires.1.0 c.requires.1.1 (sym c.in-default.ensures) (memory_state (v m.pmap) c.load.new.self m.counts) room is);
+          (brings_unused (v m.pmap) s c.args.x c.requires.1.0 c.requires.1.1 (sym c.in_default.ensures) (memory_state (v m.pmap) c.load.new.self m.counts) room is);
       kept = c.requires.0;
     }
 
-pub returns-in-default-victim : goal.returns-in-default-victim
-returns-in-default-victim g c =
+pub returns-in_default-victim : goal.returns-in_default-victim
+returns-in_default-victim g c =
     let v = g.P.Pmap.view in
     let m = c.args.self.now in
     let full : m.tables.frames ≤ length (vec_items m.tables.queue) = omega (arith, c.len-used.ensures, m.tables.queue.ok.0, c.if-used-from.false, c.from.ensures) in
     record {
-      brings = brings_none (v m.pmap) (memory_state (v m.pmap) m.tables m.counts) c.args.x c.requires.1.0 c.requires.1.1 (sym c.in-default.ensures) full (sym c.in-default-victim.ensures);
+      brings = brings_none (v m.pmap) (memory_state (v m.pmap) m.tables m.counts) c.args.x c.requires.1.0 c.requires.1.1 (sym c.in_default.ensures) full (sym c.in_default-victim.ensures);
       kept = c.requires.0;
     }
 
@@ -51,8 +51,8 @@ evict-requires g c =
         (
           fits,
           (
-            victim_low (v m.pmap) s c.args.x c.requires.1.0 c.requires.1.1 (sym c.in-default.ensures) full c.in-Some-victim.at here,
-            victim_owner (v m.pmap) s c.args.x c.requires.1.0 c.requires.1.1 (sym c.in-default.ensures) full c.in-Some-victim.at here,
+            victim_low (v m.pmap) s c.args.x c.requires.1.0 c.requires.1.1 (sym c.in_default.ensures) full c.in-Some-victim.at here,
+            victim_owner (v m.pmap) s c.args.x c.requires.1.0 c.requires.1.1 (sym c.in_default.ensures) full c.in-Some-victim.at here,
           ),
         ),
       ),
@@ -68,9 +68,9 @@ load-requires-2 g c =
     let inside = place_inside (free (vec_items m.tables.wired)) (vec_items m.tables.queue) c.in-Some-victim.at here in
     let fits : c.in-Some-victim.at < vec_len m.tables.queue = omega (arith, inside, m.tables.queue.ok.0) in
     let frame = get_or_read_under (vec_items m.tables.queue) c.in-Some-victim.at (vec_len m.tables.queue) c.index-frame.result.now 0 c.index-frame.ensures fits m.tables.queue.ok.0 in
-    let low = victim_low (v m.pmap) s c.args.x c.requires.1.0 c.requires.1.1 (sym c.in-default.ensures) full c.in-Some-victim.at here in
-    let less = less_used (v m.pmap) s c.args.x c.requires.1.0 c.requires.1.1 (sym c.in-default.ensures) full c.in-Some-victim.at here in
-    let queue = ap (λ z. length z.queue) c.in-ok-evicted.ensures.evicts.state in
+    let low = victim_low (v m.pmap) s c.args.x c.requires.1.0 c.requires.1.1 (sym c.in_default.ensures) full c.in-Some-victim.at here in
+    let less = less_used (v m.pmap) s c.args.x c.requires.1.0 c.requires.1.1 (sym c.in_default.ensures) full c.in-Some-victim.at here in
+    let queue = ap (λ z. length z.queue) c.in_ok-evicted.ensures.evicts.state in
     (c.requires.1.1, (omega (arith, frame, low), omega (arith, less, queue, c.evict.new.self.tables.queue.ok.0)))
 
 pub returns : goal.returns
@@ -87,9 +87,9 @@ returns g c =
     let last = memory_state (v e.pmap) c.load-2.new.self e.counts in
     let mid = memory_state (v e.pmap) e.tables e.counts in
     record {
-      brings = subst (λ z. Brings (v m.pmap) (v e.pmap) s last c.args.x z _ c.in-ok-evicted.evicted) (sym frame)
-          (brings_victim (v m.pmap) s c.args.x c.requires.1.0 c.requires.1.1 (sym c.in-default.ensures) full c.in-Some-victim.at here
-          (v e.pmap) mid last c.in-ok-evicted.evicted c.in-ok-evicted.ensures.evicts
+      brings = subst (λ z. Brings (v m.pmap) (v e.pmap) s last c.args.x z _ c.in_ok-evicted.evicted) (sym frame)
+          (brings_victim (v m.pmap) s c.args.x c.requires.1.0 c.requires.1.1 (sym c.in_default.ensures) full c.in-Some-victim.at here
+          (v e.pmap) mid last c.in_ok-evicted.evicted c.in_ok-evicted.ensures.evicts
           (c.load-2.ensures (v e.pmap).modified e.counts ∙ ap (load mid c.args.x) frame));
-      kept = c.in-ok-evicted.ensures.kept;
+      kept = c.in_ok-evicted.ensures.kept;
     }

@@ -12,16 +12,16 @@ bring-requires g c =
     let v = g.P.Pmap.view in
     let m = c.args.self.now in
     let x = covered (memory_state (v m.pmap) m.tables m.counts) c.args.space c.args.page c.args.region c.requires.ready.good c.requires.covers in
-    (c.requires.kept, (c.requires.ready.good, omega (arith, x.page_low, c.object-page.ensures)))
+    (c.requires.kept, (c.requires.ready.good, omega (arith, x.page_low, c.object_page.ensures)))
 
-pub returns-in-err-enter : goal.returns-in-err-enter
-returns-in-err-enter g c =
+pub returns-in_err-enter : goal.returns-in_err-enter
+returns-in_err-enter g c =
     let v = g.P.Pmap.view in
     let m = c.args.self.now in
     let s = memory_state (v m.pmap) m.tables m.counts in
     let x = covered s c.args.space c.args.page c.args.region c.requires.ready.good c.requires.covers in
-    let b = c.in-ok-brought.ensures.brings in
-    let low : c.object-page.result < 2048 = omega (arith, x.page_low, c.object-page.ensures) in
-    let fits = entry_fits (resident s c.object-page.result) c.args.space c.args.page c.object-page.result c.in-ok-brought.brought.frame c.args.region
-    (good_resident s c.object-page.result c.requires.ready.good low b.room) c.requires.place x.fits b.lies in
-    absurd (enter_passes (v c.bring.new.self.pmap) c.args.space c.args.page c.in-ok-brought.brought.frame c.args.region.protection c.in-err-enter.field-0.0 fits c.in-err-enter.ensures.meaning.0)
+    let b = c.in_ok-brought.ensures.brings in
+    let low : c.object_page.result < 2048 = omega (arith, x.page_low, c.object_page.ensures) in
+    let fits = entry_fits (resident s c.object_page.result) c.args.space c.args.page c.object_page.result c.in_ok-brought.brought.frame c.args.region
+    (good_resident s c.object_page.result c.requires.ready.good low b.room) c.requires.place x.fits b.lies in
+    absurd (enter_passes (v c.bring.new.self.pmap) c.args.space c.args.page c.in_ok-brought.brought.frame c.args.region.protection c.in_err-enter.field-0.0 fits c.in_err-enter.ensures.meaning.0)

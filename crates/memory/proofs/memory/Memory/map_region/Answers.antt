@@ -10,8 +10,8 @@ returns g c =
     let few : length (vec_items m.tables.regions) < 64 = omega (arith, m.tables.regions.ok.0, c.len.ensures, c.if-len-ge64.false) in
     record {
       serves = map_served v (memory_state v m.tables m.counts) c.args.space c.args.page c.args.count c.args.object c.args.offset c.args.protection
-          (memory_state v c.add-region.new.self m.counts)
-          (sym c.fits-map.ensures ∙ c.if-not-fits-map.false) (sym c.overlaps.ensures ∙ c.if-overlaps.false) few
-          (c.add-region.ensures v.modified m.counts);
+          (memory_state v c.add_region.new.self m.counts)
+          (sym c.fits_map.ensures ∙ c.if-not-fits_map.false) (sym c.overlaps.ensures ∙ c.if-overlaps.false) few
+          (c.add_region.ensures v.modified m.counts);
       kept = c.requires.0;
     }

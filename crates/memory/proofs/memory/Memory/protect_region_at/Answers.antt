@@ -7,26 +7,26 @@ use Rattle.memory.proofs.memory.Memory.protect_region_at.Goals as goal
 
 pub index-requires : goal.index-requires
 index-requires g c =
-    omega (arith, place_inside (begins c.args.space c.args.page) (vec_items c.args.self.now.tables.regions) c.in-ok-at.at c.in-ok-at.ensures.found, c.args.self.now.tables.regions.ok.0)
+    omega (arith, place_inside (begins c.args.space c.args.page) (vec_items c.args.self.now.tables.regions) c.in_ok-at.at c.in_ok-at.ensures.found, c.args.self.now.tables.regions.ok.0)
 
-pub restrict-region-requires : goal.restrict-region-requires
-restrict-region-requires g c =
+pub restrict_region-requires : goal.restrict_region-requires
+restrict_region-requires g c =
     let m = c.args.self.now in
-    let fit = region_fits_is (memory_state (g.P.Pmap.view m.pmap) m.tables m.counts) c.args.space c.args.page c.in-ok-at.at c.index.result.now c.in-ok-at.ensures.found c.index.ensures c.requires.1.good in
+    let fit = region_fits_is (memory_state (g.P.Pmap.view m.pmap) m.tables m.counts) c.args.space c.args.page c.in_ok-at.at c.index.result.now c.in_ok-at.ensures.found c.index.ensures c.requires.1.good in
     (c.requires.0, fit)
 
-pub protect-region-requires : goal.protect-region-requires
-protect-region-requires g c =
-    omega (arith, place_inside (begins c.args.space c.args.page) (vec_items c.args.self.now.tables.regions) c.in-ok-at.at c.in-ok-at.ensures.found, c.args.self.now.tables.regions.ok.0)
+pub protect_region-requires : goal.protect_region-requires
+protect_region-requires g c =
+    omega (arith, place_inside (begins c.args.space c.args.page) (vec_items c.args.self.now.tables.regions) c.in_ok-at.at c.in_ok-at.ensures.found, c.args.self.now.tables.regions.ok.0)
 
 pub returns : goal.returns
 returns g c =
     let v = g.P.Pmap.view in
     let m = c.args.self.now in
-    let w = v c.restrict-region.new.pmap in
+    let w = v c.restrict_region.new.pmap in
     record {
-      serves = protect_served (v m.pmap) w (memory_state (v m.pmap) m.tables m.counts) (memory_state w c.protect-region.new.self m.counts)
-          c.args.space c.args.page c.in-ok-at.at c.index.result.now c.in-ok-at.ensures c.index.ensures refl
-          c.args.protection (sym c.fits-protect.ensures ∙ c.if-not-fits-protect.false) c.in-ok-restrict-region.ensures.restricted (c.protect-region.ensures w.modified m.counts c.index.result.now);
-      kept = c.in-ok-restrict-region.ensures.kept;
+      serves = protect_served (v m.pmap) w (memory_state (v m.pmap) m.tables m.counts) (memory_state w c.protect_region.new.self m.counts)
+          c.args.space c.args.page c.in_ok-at.at c.index.result.now c.in_ok-at.ensures c.index.ensures refl
+          c.args.protection (sym c.fits_protect.ensures ∙ c.if-not-fits_protect.false) c.in_ok-restrict_region.ensures.restricted (c.protect_region.ensures w.modified m.counts c.index.result.now);
+      kept = c.in_ok-restrict_region.ensures.kept;
     }

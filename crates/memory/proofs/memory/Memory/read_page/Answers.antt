@@ -8,5 +8,5 @@ word-word-requires g c =
     let v = g.P.Pmap.view in
     let m = c.args.self.now in
     let e = c.reach.new.self in
-    let r = c.in-ok-reached.ensures.reaches in
-    reached_low (v m.pmap) (v e.pmap) (memory_state (v m.pmap) m.tables m.counts) (memory_state (v e.pmap) e.tables e.counts) c.args.space c.args.page c.in-ok-reached.reached.frame false c.in-ok-reached.reached.report c.requires.ready.good r.0 r.1
+    let r = c.in_ok-reached.ensures.reaches in
+    reached_low (v m.pmap) (v e.pmap) (memory_state (v m.pmap) m.tables m.counts) (memory_state (v e.pmap) e.tables e.counts) c.args.space c.args.page c.in_ok-reached.reached.frame false c.in_ok-reached.reached.report c.requires.ready.good r.0 r.1

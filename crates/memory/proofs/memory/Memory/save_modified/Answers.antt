@@ -7,13 +7,13 @@ pub returns : goal.returns
 returns g c =
     let v = g.P.Pmap.view in
     let m = c.args.self.now in
-    let w = v c.clear-modified.new.self in
-    let un = c.in-ok-clear-modified.ensures.meaning.1 in
+    let w = v c.clear_modified.new.self in
+    let un = c.in_ok-clear_modified.ensures.meaning.1 in
     record {
       saves = record {
-        was = sym (sym c.in-ok-modified.ensures.1 ∙ c.if-not-branch.false);
+        was = sym (sym c.in_ok-modified.ensures.1 ∙ c.if-not-branch.false);
         state = c.save.ensures w.modified m.counts ∙ ap (with_dirty (saved_to (memory_state (v m.pmap) m.tables m.counts) c.args.frame)) un.marks;
         held = un.held;
       };
-      kept = c.in-ok-clear-modified.ensures.kept;
+      kept = c.in_ok-clear_modified.ensures.kept;
     }

@@ -3,8 +3,8 @@ use Rattle.memory_meaning.specs.Ready.{memory_state}
 use Rattle.memory_meaning.proofs.Syncs.{one_page_each, sync_served}
 use Rattle.memory.proofs.memory.Memory.sync_object.Goals as goal
 
-pub store-object-requires : goal.store-object-requires
-store-object-requires g c =
+pub store_object-requires : goal.store_object-requires
+store_object-requires g c =
     let m = c.args.self.now in
     (c.requires.0, one_page_each (memory_state (g.P.Pmap.view m.pmap) m.tables m.counts) c.requires.1.good)
 
@@ -12,11 +12,11 @@ pub returns : goal.returns
 returns g c =
     let v = g.P.Pmap.view in
     let m = c.args.self.now in
-    let w = v c.store-object.new.pmap in
-    let done = c.in-ok-stored.ensures in
-    let after = c.store-object.new.tables in
+    let w = v c.store_object.new.pmap in
+    let done = c.in_ok-stored.ensures in
+    let after = c.store_object.new.tables in
     record {
-      serves = sync_served (v m.pmap) w (memory_state (v m.pmap) m.tables m.counts) c.args.object c.in-ok-stored.stored (vec_items after.store)
+      serves = sync_served (v m.pmap) w (memory_state (v m.pmap) m.tables m.counts) c.args.object c.in_ok-stored.stored (vec_items after.store)
           c.requires.1.good refl done.stores.pages
           (memory_state w after m.counts) c.if-object-ge8.false (done.stores.rest w.modified m.counts);
       kept = done.kept;

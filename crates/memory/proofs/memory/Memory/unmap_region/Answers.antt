@@ -8,26 +8,26 @@ use Rattle.memory.proofs.memory.Memory.unmap_region.Goals as goal
 
 pub index-region-requires : goal.index-region-requires
 index-region-requires g c =
-    omega (arith, place_inside (begins c.args.space c.args.page) (vec_items c.args.self.now.tables.regions) c.in-ok-at.at c.in-ok-at.ensures.found, c.args.self.now.tables.regions.ok.0)
+    omega (arith, place_inside (begins c.args.space c.args.page) (vec_items c.args.self.now.tables.regions) c.in_ok-at.at c.in_ok-at.ensures.found, c.args.self.now.tables.regions.ok.0)
 
-pub remove-pages-requires : goal.remove-pages-requires
-remove-pages-requires g c =
+pub remove_pages-requires : goal.remove_pages-requires
+remove_pages-requires g c =
     let m = c.args.self.now in
-    let fit = region_fits_is (memory_state (g.P.Pmap.view m.pmap) m.tables m.counts) c.args.space c.args.page c.in-ok-at.at c.index-region.result.now c.in-ok-at.ensures.found c.index-region.ensures c.requires.1.good in
+    let fit = region_fits_is (memory_state (g.P.Pmap.view m.pmap) m.tables m.counts) c.args.space c.args.page c.in_ok-at.at c.index-region.result.now c.in_ok-at.ensures.found c.index-region.ensures c.requires.1.good in
     let n = fits c.index-region.result.now fit in (c.requires.0, (n.space, n.pages))
 
-pub remove-region-requires : goal.remove-region-requires
-remove-region-requires g c =
-    omega (arith, place_inside (begins c.args.space c.args.page) (vec_items c.args.self.now.tables.regions) c.in-ok-at.at c.in-ok-at.ensures.found, c.args.self.now.tables.regions.ok.0)
+pub remove_region-requires : goal.remove_region-requires
+remove_region-requires g c =
+    omega (arith, place_inside (begins c.args.space c.args.page) (vec_items c.args.self.now.tables.regions) c.in_ok-at.at c.in_ok-at.ensures.found, c.args.self.now.tables.regions.ok.0)
 
 pub returns : goal.returns
 returns g c =
     let v = g.P.Pmap.view in
     let m = c.args.self.now in
-    let w = v c.remove-pages.new.pmap in
+    let w = v c.remove_pages.new.pmap in
     record {
-      serves = unmap_served (v m.pmap) w (memory_state (v m.pmap) m.tables m.counts) (memory_state w c.remove-region.new.self m.counts)
-          c.args.space c.args.page c.in-ok-at.at c.index-region.result.now c.in-ok-at.ensures c.index-region.ensures refl
-          (sym c.fits-place.ensures ∙ c.if-not-fits-place.false) c.in-ok-remove-pages.ensures.removed (c.remove-region.ensures w.modified m.counts);
-      kept = c.in-ok-remove-pages.ensures.kept;
+      serves = unmap_served (v m.pmap) w (memory_state (v m.pmap) m.tables m.counts) (memory_state w c.remove_region.new.self m.counts)
+          c.args.space c.args.page c.in_ok-at.at c.index-region.result.now c.in_ok-at.ensures c.index-region.ensures refl
+          (sym c.fits_place.ensures ∙ c.if-not-fits_place.false) c.in_ok-remove_pages.ensures.removed (c.remove_region.ensures w.modified m.counts);
+      kept = c.in_ok-remove_pages.ensures.kept;
     }

@@ -8,11 +8,11 @@ returns g c =
     let v = g.P.Pmap.view in
     let m = c.args.self.now in
     let w = v c.unwire.new.self in
-    let done = c.in-ok-unwire.ensures in
+    let done = c.in_ok-unwire.ensures in
     record {
       serves = unwire_served (v m.pmap) w (memory_state (v m.pmap) m.tables m.counts) c.args.space c.args.page
-          (memory_state w c.remove-wired.new.self m.counts)
-          done.meaning.0 (sym c.is-wired.ensures ∙ c.if-not-is-wired.false) done.meaning.1 refl
-          (c.remove-wired.ensures w.modified m.counts);
+          (memory_state w c.remove_wired.new.self m.counts)
+          done.meaning.0 (sym c.is_wired.ensures ∙ c.if-not-is_wired.false) done.meaning.1 refl
+          (c.remove_wired.ensures w.modified m.counts);
       kept = done.kept;
     }

@@ -14,24 +14,24 @@ bring-requires g c =
     let v = g.P.Pmap.view in
     let m = c.args.self.now in
     let x = covered (memory_state (v m.pmap) m.tables m.counts) c.args.space c.args.page c.in-Some.region c.requires.ready.good (sym c.in-Some.ensures) in
-    (c.requires.kept, (c.requires.ready.good, omega (arith, x.page_low, c.object-page.ensures)))
+    (c.requires.kept, (c.requires.ready.good, omega (arith, x.page_low, c.object_page.ensures)))
 
-pub returns-in-err-enter : goal.returns-in-err-enter
-returns-in-err-enter g c =
+pub returns-in_err-enter : goal.returns-in_err-enter
+returns-in_err-enter g c =
     let v = g.P.Pmap.view in
     let m = c.args.self.now in
     let s = memory_state (v m.pmap) m.tables m.counts in
-    let y = c.object-page.result in
+    let y = c.object_page.result in
     let x = covered s c.args.space c.args.page c.in-Some.region c.requires.ready.good (sym c.in-Some.ensures) in
-    let b = c.in-ok-brought.ensures.brings in
-    let low : y < 2048 = omega (arith, x.page_low, c.object-page.ensures) in
-    let few : length (vec_items m.tables.wired) < 8 = omega (arith, c.len.ensures, m.tables.wired.ok.0, c.if-len-ge-WIRED-PLACES.false) in
-    let fits = entry_fits (resident s y) c.args.space c.args.page y c.in-ok-brought.brought.frame c.in-Some.region
-    (good_resident s y c.requires.ready.good low b.room) (sym c.if-not-fits-place.ensures) x.fits b.lies in
-    absurd (wired_enter_passes (v c.bring.new.self.pmap) c.args.space c.args.page c.in-ok-brought.brought.frame c.in-Some.region.protection c.in-err-enter.field-0.0 fits
+    let b = c.in_ok-brought.ensures.brings in
+    let low : y < 2048 = omega (arith, x.page_low, c.object_page.ensures) in
+    let few : length (vec_items m.tables.wired) < 8 = omega (arith, c.len.ensures, m.tables.wired.ok.0, c.if-len-ge-WIRED_PLACES.false) in
+    let fits = entry_fits (resident s y) c.args.space c.args.page y c.in_ok-brought.brought.frame c.in-Some.region
+    (good_resident s y c.requires.ready.good low b.room) (sym c.if-not-fits_place.ensures) x.fits b.lies in
+    absurd (wired_enter_passes (v c.bring.new.self.pmap) c.args.space c.args.page c.in_ok-brought.brought.frame c.in-Some.region.protection c.in_err-enter.field-0.0 fits
     (not_crowded (v m.pmap).held (v c.bring.new.self.pmap).held (vec_items m.tables.regions) (vec_items m.tables.lies) (vec_items m.tables.wired) c.args.space c.args.page c.requires.ready.fits few
     (λ a d w. dropped_wired_is (evictee s (lie s y)) ((v m.pmap).held a d) (ap is_wired (sym (b.held a d)) ∙ w)))
-    c.in-err-enter.ensures.meaning.0)
+    c.in_err-enter.ensures.meaning.0)
 
 pub returns : goal.returns
 returns g c =
@@ -40,12 +40,12 @@ returns g c =
     let e = c.bring.new.self in
     let s = memory_state (v m.pmap) m.tables m.counts in
     let w = v c.enter.new.self in
-    let b = c.in-ok-brought.ensures.brings in
-    let few : length (vec_items m.tables.wired) < 8 = omega (arith, c.len.ensures, m.tables.wired.ok.0, c.if-len-ge-WIRED-PLACES.false) in
+    let b = c.in_ok-brought.ensures.brings in
+    let few : length (vec_items m.tables.wired) < 8 = omega (arith, c.len.ensures, m.tables.wired.ok.0, c.if-len-ge-WIRED_PLACES.false) in
     record {
-      serves = wire_served s c.args.space c.args.page (sym c.if-not-fits-place.ensures) c.in-Some.region (sym c.in-Some.ensures) (sym c.if-is-wired.ensures)
-          (v m.pmap) (v e.pmap) w (memory_state (v e.pmap) e.tables e.counts) (memory_state w c.add-wired.new.self e.counts) c.in-ok-brought.brought.frame c.in-ok-brought.brought.loaded c.in-ok-brought.brought.evicted few
-          (subst (λ z. Brings (v m.pmap) (v e.pmap) s (memory_state (v e.pmap) e.tables e.counts) z c.in-ok-brought.brought.frame c.in-ok-brought.brought.loaded c.in-ok-brought.brought.evicted) c.object-page.ensures b)
-          refl c.in-ok-enter.ensures.meaning.1 (c.add-wired.ensures w.modified e.counts);
-      kept = c.in-ok-enter.ensures.kept;
+      serves = wire_served s c.args.space c.args.page (sym c.if-not-fits_place.ensures) c.in-Some.region (sym c.in-Some.ensures) (sym c.if-is_wired.ensures)
+          (v m.pmap) (v e.pmap) w (memory_state (v e.pmap) e.tables e.counts) (memory_state w c.add_wired.new.self e.counts) c.in_ok-brought.brought.frame c.in_ok-brought.brought.loaded c.in_ok-brought.brought.evicted few
+          (subst (λ z. Brings (v m.pmap) (v e.pmap) s (memory_state (v e.pmap) e.tables e.counts) z c.in_ok-brought.brought.frame c.in_ok-brought.brought.loaded c.in_ok-brought.brought.evicted) c.object_page.ensures b)
+          refl c.in_ok-enter.ensures.meaning.1 (c.add_wired.ensures w.modified e.counts);
+      kept = c.in_ok-enter.ensures.kept;
     }

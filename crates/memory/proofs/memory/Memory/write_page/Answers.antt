@@ -3,22 +3,22 @@ use Rattle.memory_meaning.specs.Ready.{memory_state}
 use Rattle.memory_meaning.proofs.AccessRules.{reached_low, write_served}
 use Rattle.memory.proofs.memory.Memory.write_page.Goals as goal
 
-pub write-word-requires : goal.write-word-requires
-write-word-requires g c =
+pub write_word-requires : goal.write_word-requires
+write_word-requires g c =
     let v = g.P.Pmap.view in
     let m = c.args.self.now in
     let e = c.reach.new.self in
-    let r = c.in-ok-reached.ensures.reaches in
-    reached_low (v m.pmap) (v e.pmap) (memory_state (v m.pmap) m.tables m.counts) (memory_state (v e.pmap) e.tables e.counts) c.args.space c.args.page c.in-ok-reached.reached.frame true c.in-ok-reached.reached.report c.requires.ready.good r.0 r.1
+    let r = c.in_ok-reached.ensures.reaches in
+    reached_low (v m.pmap) (v e.pmap) (memory_state (v m.pmap) m.tables m.counts) (memory_state (v e.pmap) e.tables e.counts) c.args.space c.args.page c.in_ok-reached.reached.frame true c.in_ok-reached.reached.report c.requires.ready.good r.0 r.1
 
 pub returns : goal.returns
 returns g c =
     let v = g.P.Pmap.view in
     let m = c.args.self.now in
     let e = c.reach.new.self in
-    let r = c.in-ok-reached.ensures.reaches in
+    let r = c.in_ok-reached.ensures.reaches in
     record {
       serves = write_served (v m.pmap) (v e.pmap) (memory_state (v m.pmap) m.tables m.counts) (memory_state (v e.pmap) e.tables e.counts) c.args.space c.args.page
-          (memory_state (v e.pmap) c.write-word.new.self e.counts) c.in-ok-reached.reached.frame c.args.word c.in-ok-reached.reached.report r.0 r.1 (c.write-word.ensures (v e.pmap).modified e.counts);
-      kept = c.in-ok-reached.ensures.kept;
+          (memory_state (v e.pmap) c.write_word.new.self e.counts) c.in_ok-reached.reached.frame c.args.word c.in_ok-reached.reached.report r.0 r.1 (c.write_word.ensures (v e.pmap).modified e.counts);
+      kept = c.in_ok-reached.ensures.kept;
     }

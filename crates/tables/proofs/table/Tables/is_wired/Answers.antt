@@ -7,4 +7,4 @@ use Rattle.tables.proofs.table.Tables.is_wired.Goals as goal
 pub returns : goal.returns
 returns c =
     let test = is_place c.args.space c.args.page in
-    c.is-some.ensures ∙ ap is_some (c.find-wired.ensures ∙ ap (place test) c.deref.ensures.value) ∙ sym (any_place test (vec_items c.args.self.now.wired))
+    c.is_some.ensures ∙ ap is_some (c.find_wired.ensures ∙ ap (place test) c.deref.ensures.value) ∙ sym (any_place test (vec_items c.args.self.now.wired))

@@ -7,13 +7,13 @@ unfolding no_pages no_frames
 returns c =
     λ i. record {
       frames = c.args.frames;
-      regions = c.in-ok-with-capacity.ensures.items i;
-      lies = c.in-ok-repeated.ensures.items i;
-      owners = c.in-ok-repeated-2.ensures.items i;
-      queue = c.in-ok-with-capacity-2.ensures.items i;
-      words = c.in-ok-repeated-3.ensures.items i;
-      store = c.in-ok-starting-words.ensures.items i;
-      wired = c.in-ok-with-capacity-3.ensures.items i;
+      regions = c.in_ok-with_capacity.ensures.items i;
+      lies = c.in_ok-repeated.ensures.items i;
+      owners = c.in_ok-repeated-2.ensures.items i;
+      queue = c.in_ok-with_capacity-2.ensures.items i;
+      words = c.in_ok-repeated-3.ensures.items i;
+      store = c.in_ok-starting_words.ensures.items i;
+      wired = c.in_ok-with_capacity-3.ensures.items i;
       dirty = λ _. false;
       counts = no_counts;
     }

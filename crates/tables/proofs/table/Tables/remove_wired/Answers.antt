@@ -18,8 +18,8 @@ returns-in-Some c d n =
     let e : place test (vec_items c.args.self.now.wired) ≡ Some c.in-Some.at = cc in
     ap (with_wired (state_of c.args.self.now d n)) (c.remove.ensures.items ∙ removed_is test (vec_items c.args.self.now.wired) c.in-Some.at e)
 
-pub returns-in-default : goal.returns-in-default
-returns-in-default c d n =
+pub returns-in_default : goal.returns-in_default
+returns-in_default c d n =
     let test = is_place c.args.space c.args.page in
     let e : place test (vec_items c.args.self.now.wired) ≡ None = cc in
     ap (with_wired (state_of c.args.self.now d n)) (sym (nowhere_without test (vec_items c.args.self.now.wired) e))
