@@ -5,13 +5,13 @@ use Rattle.trace.specs.Format.{fit, packed, bytes_of}
 use Rattle.trace.proofs.Codec.{encoded_by, encoded_back}
 use Rattle.trace.proofs.encode.encode.Goals as goal
 
-pub returns-in-default : goal.returns-in-default
-returns-in-default c =
-    let known = c.number.ensures ∙ ap (λ f. cond (fit f) (Some (packed f)) None) c.of-record.ensures in
-    record { value = sym (encoded_by c.args.call c.number.result known ∙ ap (option_map bytes_of) c.in-default.is); back = tt }
+pub returns-in_default : goal.returns-in_default
+returns-in_default c =
+    let known = c.number.ensures ∙ ap (λ f. cond (fit f) (Some (packed f)) None) c.of_record.ensures in
+    record { value = sym (encoded_by c.args.call c.number.result known ∙ ap (option_map bytes_of) c.in_default.is); back = tt }
 
 pub returns : goal.returns
 returns c =
-    let known = c.number.ensures ∙ ap (λ f. cond (fit f) (Some (packed f)) None) c.of-record.ensures in
-    let value = encoded_by c.args.call c.number.result known ∙ ap (option_map bytes_of) c.in-Some.is ∙ ap Some (sym c.low-bytes.ensures) in
-    record { value = sym value; back = encoded_back c.args.call c.low-bytes.result value }
+    let known = c.number.ensures ∙ ap (λ f. cond (fit f) (Some (packed f)) None) c.of_record.ensures in
+    let value = encoded_by c.args.call c.number.result known ∙ ap (option_map bytes_of) c.in-Some.is ∙ ap Some (sym c.low_bytes.ensures) in
+    record { value = sym value; back = encoded_back c.args.call c.low_bytes.result value }

@@ -18,8 +18,8 @@ stop b at h = grind (arith, nat_tests)
 pub loop-entry-preserved : goal.loop-entry-preserved
 loop-entry-preserved c =
     let inv = c.loop-entry.invariant in
-    let put = c.in-ok-push.ensures in
-    let s = step c.loop-entry.reader.bytes.now c.loop-entry.reader.at c.next-entry.new.self.at c.in-Some.entry
+    let put = c.in_ok-push.ensures in
+    let s = step c.loop-entry.reader.bytes.now c.loop-entry.reader.at c.next_entry.new.self.at c.in-Some.entry
     c.in-Some.ensures.answer c.in-Some.ensures.moved in
     let here = s.1 ∙ ap (λ x. entry_at x c.loop-entry.reader.at) inv.0 ∙ ap (entry_at c.args.bytes.now) inv.1 in (
       c.in-Some.ensures.bytes ∙ inv.0,
@@ -33,14 +33,14 @@ returns c =
     let inv = c.loop-entry.invariant in
     let b = c.args.bytes.now in
     let all : (length b - 2) / 12 ≡ vec_len c.loop-entry.entries =
-    omega (arith, stop c.loop-entry.reader.bytes.now c.loop-entry.reader.at c.in-default.ensures.answer, inv.1, ap length inv.0) in
+    omega (arith, stop c.loop-entry.reader.bytes.now c.loop-entry.reader.at c.in_default.ensures.answer, inv.1, ap length inv.0) in
     let count = sym (all ∙ c.loop-entry.entries.ok.0) in
     let places : (k : ℕ) (d : Entry) → k < record_count b → get_or (vec_items c.loop-entry.entries) k d ≡ entry_at b (2 + 12 * k) =
     λ k d h. inv.2 k d (omega (arith, all)) in
     record {
-      passed = sym c.in-ok-frames.ensures;
+      passed = sym c.in_ok-frames.ensures;
       count = count;
       places = places;
       whole = fill_by_all (λ k. entry_at b (2 + 12 * k)) (vec_items c.loop-entry.entries) (record_count b) (entry_at b 2) count (λ k. places k (entry_at b 2));
-      own = λ k h. content_at_own (content_at b (2 + 12 * k)) b (2 + 12 * k) (λ i. omega (arith, c.type-inv.bytes i)) refl;
+      own = λ k h. content_at_own (content_at b (2 + 12 * k)) b (2 + 12 * k) (λ i. omega (arith, c.type_inv.bytes i)) refl;
     }
