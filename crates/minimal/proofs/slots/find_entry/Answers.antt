@@ -8,7 +8,7 @@ returns-then-is-at c =
 
 pub loop-slot-preserved : goal.loop-slot-preserved
 loop-slot-preserved c =
-    sym (loop_miss c.args.slots.now c.loop-slot.slot-index c.args.space c.args.page (omega arith) (sym c.if-is-at.ensures)) ∙ c.loop-slot.invariant
+    sym (loop_miss c.args.slots.now c.loop-slot.slot-index c.args.space c.args.page (omega arith) (sym c.if-is_at.ensures)) ∙ c.loop-slot.invariant
 
 pub returns : goal.returns
 returns c =

@@ -13,7 +13,7 @@ put-requires-2 c =
     let found = c.in-Some.ensures in
     record {
       kept = c.requires;
-      room = room_wired c.args.self.now.slots c.in-Some.at _ found.0 c.if-not-wired.false (let fits = c.if-not-fits-entry.ensures in grind (arith, nat_tests)) found.1;
+      room = room_wired c.args.self.now.slots c.in-Some.at _ found.0 c.if-not-wired.false (let fits = c.if-not-fits_entry.ensures in grind (arith, nat_tests)) found.1;
     }
 
 pub returns : goal.returns
