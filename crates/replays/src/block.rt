@@ -18,9 +18,9 @@ use trace::record::Entry;
 
 // Puts the counts and the modified pages behind a text.
 fn push_tail<P: Pmap>(heap: Global, text: &mut String, memory: &Memory<P>) -> Result<(), AllocError>
-    requires kept { kept memory.now.pmap }
-    requires ready { Ready (view memory.now.pmap) (memory_state (view memory.now.pmap) memory.now.tables memory.now.counts) }
-    ensures { OnOk result (string_bytes text.new ≡ string_bytes text.old ++ block_tail memory.now.counts (modified_in (memory_state (view memory.now.pmap) memory.now.tables memory.now.counts))) }
+    requires kept { P.kept memory.now.pmap }
+    requires ready { Ready (P.view memory.now.pmap) (memory_state (P.view memory.now.pmap) memory.now.tables memory.now.counts) }
+    ensures { OnOk result (string_bytes text.new ≡ string_bytes text.old ++ block_tail memory.now.counts (modified_in (memory_state (P.view memory.now.pmap) memory.now.tables memory.now.counts))) }
 {
     push_accesses(heap, text, &memory.counts)?;
     push_moves(heap, text, &memory.counts)?;
@@ -35,9 +35,9 @@ fn block<P: Pmap>(
     entries: &[Entry],
     ran: &Ran<P>,
 ) -> Result<String, AllocError>
-    requires kept { kept ran.now.memory.pmap }
-    requires ready { Ready (view ran.now.memory.pmap) (memory_state (view ran.now.memory.pmap) ran.now.memory.tables ran.now.memory.counts) }
-    ensures { IfOk result (λ t. string_bytes t ≡ block_text name.now entries.now ran.now.replies.items ran.now.memory.counts (modified_in (memory_state (view ran.now.memory.pmap) ran.now.memory.tables ran.now.memory.counts))) }
+    requires kept { P.kept ran.now.memory.pmap }
+    requires ready { Ready (P.view ran.now.memory.pmap) (memory_state (P.view ran.now.memory.pmap) ran.now.memory.tables ran.now.memory.counts) }
+    ensures { IfOk result (λ t. string_bytes t ≡ block_text name.now entries.now ran.now.replies.items ran.now.memory.counts (modified_in (memory_state (P.view ran.now.memory.pmap) ran.now.memory.tables ran.now.memory.counts))) }
 {
     let mut text = String::new(heap);
     text.push_str(format!(in heap; "machine {name}\n")?.as_str())?;

@@ -10,10 +10,10 @@ use std::alloc::{AllocError, Global};
 
 // Whether object page x is modified.
 fn is_modified<P: Pmap>(memory: &Memory<P>, x: usize) -> bool
-    requires kept { kept memory.now.pmap }
-    requires ready { Ready (view memory.now.pmap) (memory_state (view memory.now.pmap) memory.now.tables memory.now.counts) }
+    requires kept { P.kept memory.now.pmap }
+    requires ready { Ready (P.view memory.now.pmap) (memory_state (P.view memory.now.pmap) memory.now.tables memory.now.counts) }
     requires page { x < 2048 }
-    ensures { result ≡ modified_in (memory_state (view memory.now.pmap) memory.now.tables memory.now.counts) x }
+    ensures { result ≡ modified_in (memory_state (P.view memory.now.pmap) memory.now.tables memory.now.counts) x }
 {
     let Some(frame) = memory.tables.frame_of(x) else {
         return false;
@@ -43,9 +43,9 @@ pub fn push_dirty_pages<P: Pmap>(
     text: &mut String,
     memory: &Memory<P>,
 ) -> Result<(), AllocError>
-    requires kept { kept memory.now.pmap }
-    requires ready { Ready (view memory.now.pmap) (memory_state (view memory.now.pmap) memory.now.tables memory.now.counts) }
-    ensures { OnOk result (string_bytes text.new ≡ string_bytes text.old ++ dirty_lines (modified_in (memory_state (view memory.now.pmap) memory.now.tables memory.now.counts)) 2048) }
+    requires kept { P.kept memory.now.pmap }
+    requires ready { Ready (P.view memory.now.pmap) (memory_state (P.view memory.now.pmap) memory.now.tables memory.now.counts) }
+    ensures { OnOk result (string_bytes text.new ≡ string_bytes text.old ++ dirty_lines (modified_in (memory_state (P.view memory.now.pmap) memory.now.tables memory.now.counts)) 2048) }
 {
     for x in 0..2048u32 {
         let modified = is_modified(memory, x as usize);

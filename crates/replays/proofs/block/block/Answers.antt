@@ -13,5 +13,5 @@ built name zero piece one two new tail entries lent replies z p is q same r =
 
 pub returns : goal.returns
 returns g c =
-    built c.args.name.now _ _ _ _ _ _ c.args.entries.now _ _ c.new-text.ensures.bytes c.in-ok-push-str.ensures.bytes (c.as-str.ensures.value ∙ c.in-ok-format.ensures.ok)
-    c.in-ok-push-lines.ensures c.deref.ensures.value c.in-ok-push-tail.ensures
+    built c.args.name.now _ _ _ _ _ _ c.args.entries.now _ _ c.new-text.ensures.bytes c.in_ok-push_str.ensures.bytes (c.as_str.ensures.value ∙ c.in_ok-format.ensures.ok)
+    c.in_ok-push_lines.ensures c.deref.ensures.value c.in_ok-push_tail.ensures

@@ -9,4 +9,4 @@ built old one two new a b d p q r =
 pub returns : goal.returns
 returns g c =
     let n = c.args.memory.now.counts in
-    built (string_bytes c.args.text.now) _ _ _ (access_counts n) (page_counts n) _ c.in-ok-push-accesses.ensures c.in-ok-push-moves.ensures c.in-ok-push-dirty-pages.ensures
+    built (string_bytes c.args.text.now) _ _ _ (access_counts n) (page_counts n) _ c.in_ok-push_accesses.ensures c.in_ok-push_moves.ensures c.in_ok-push_dirty_pages.ensures

@@ -10,4 +10,4 @@ unreachable-requires g c =
     let m = c.args.memory.now in
     let s = memory_state (v m.pmap) m.tables m.counts in
     let low = used_low s c.in-Some.frame c.requires.ready.good (c.requires.ready.good.lies_used c.args.x c.in-Some.frame (sym c.in-Some.ensures)) in
-    both_ways _ c.in-default-modified.ensures.1 (lt-ltb c.in-Some.frame 256 low)
+    both_ways _ c.in_default-modified.ensures.1 (lt-ltb c.in-Some.frame 256 low)

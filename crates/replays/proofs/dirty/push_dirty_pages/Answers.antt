@@ -27,4 +27,4 @@ loop-x-init g c =
 pub loop-x-preserved : goal.loop-x-preserved
 loop-x-preserved g c =
     let m = c.args.memory.now in
-    again (is_modified (memory_state (g.P.Pmap.view m.pmap) m.tables m.counts)) c.loop-x.x c.is-modified-modified.result _ _ _ c.loop-x.invariant c.is-modified-modified.ensures c.in-ok-push-dirty.ensures
+    again (is_modified (memory_state (g.P.Pmap.view m.pmap) m.tables m.counts)) c.loop-x.x c.is_modified-modified.result _ _ _ c.loop-x.invariant c.is_modified-modified.ensures c.in_ok-push_dirty.ensures

@@ -40,7 +40,7 @@ step es rs i next past d lt is =
 pub loop-item-preserved : goal.loop-item-preserved
 unfolding default
 loop-item-preserved c = (
-  again _ _ _ _ _ _ _ c.in-ok-push-line.ensures (ap (λ z. outcome_line (get_or c.args.entries.now c.loop-item.item-index default).number (outcome_of (get_or c.args.entries.now c.loop-item.item-index default) z)) c.reply-at.ensures)
+  again _ _ _ _ _ _ _ c.in_ok-push_line.ensures (ap (λ z. outcome_line (get_or c.args.entries.now c.loop-item.item-index default).number (outcome_of (get_or c.args.entries.now c.loop-item.item-index default) z)) c.reply_at.ensures)
       (step c.args.entries.now c.args.replies.now c.loop-item.item-index c.loop-item.next c.after-next.result default c.loop-item-test.true c.after-next.ensures)
       c.loop-item.invariant.0,
   past_most _ _ _ _ c.loop-item.invariant.1 c.after-next.ensures,

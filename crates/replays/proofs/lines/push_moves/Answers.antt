@@ -9,4 +9,4 @@ built : (n : Counts) (old new piece : List ℕ) → new ≡ old ++ piece
 built n old new piece put is = put ∙ ap (λ x. old ++ x) is
 
 pub returns : goal.returns
-returns c = built c.args.n.now _ _ _ c.in-ok-push-str.ensures.bytes (c.as-str.ensures.value ∙ c.in-ok-format.ensures.ok)
+returns c = built c.args.n.now _ _ _ c.in_ok-push_str.ensures.bytes (c.as_str.ensures.value ∙ c.in_ok-format.ensures.ok)

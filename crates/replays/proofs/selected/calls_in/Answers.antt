@@ -13,7 +13,7 @@ loop-item-init c = ap (λ x. x ++ calls_in c.args.entries.now) c.new-calls.ensur
 pub loop-item-preserved : goal.loop-item-preserved
 unfolding calls_in
 loop-item-preserved c =
-    again _ _ _ _ _ _ c.in-ok-push-call.ensures (at_drop_more calls_in c.args.entries.now c.loop-item.item-index _ c.loop-item-test.true) c.loop-item.invariant
+    again _ _ _ _ _ _ c.in_ok-push_call.ensures (at_drop_more calls_in c.args.entries.now c.loop-item.item-index _ c.loop-item-test.true) c.loop-item.invariant
 
 pub returns : goal.returns
 unfolding calls_in
