@@ -9,7 +9,7 @@ loop-slot-preserved c =
     let ys = c.loop-slot.slots in
     let i = c.loop-slot.slot-index in
     let x = get_or ys i None in
-    ap (set ys i) c.change-slot.ensures
+    ap (set ys i) c.change_slot.ensures
     ∙ map_over_more (changed c.args.change) c.args.slots.now ys i x (omega arith) c.loop-slot.invariant (get_or_default ys i None x (omega arith))
 
 pub returns : goal.returns

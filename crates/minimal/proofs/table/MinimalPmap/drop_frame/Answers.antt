@@ -10,8 +10,8 @@ pub returns : goal.returns
 returns c =
     let xs = c.args.self.now.slots in
     let marks = c.args.self.now.marks in
-    let is = sym c.change-slots.ensures in
+    let is = sym c.change_slots.ensures in
     record {
-      meaning = (sym c.if-not-fits-frame.ensures, subst (λ ys. Dropped (shown xs marks) (shown ys marks) c.args.frame) is (drops xs c.requires c.args.frame marks));
+      meaning = (sym c.if-not-fits_frame.ensures, subst (λ ys. Dropped (shown xs marks) (shown ys marks) c.args.frame) is (drops xs c.requires c.args.frame marks));
       kept = subst Sound is (changed_sound (Drop c.args.frame) xs c.requires);
     }

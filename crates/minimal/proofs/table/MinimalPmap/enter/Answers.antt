@@ -3,9 +3,9 @@ use Rattle.std.proofs.lemmas.Bool.Decides.{nat_tests}
 use Rattle.minimal.proofs.Wired.{crowded, not_crowded, room_wired}
 use Rattle.minimal.proofs.table.MinimalPmap.enter.Goals as goal
 
-pub returns-in-default : goal.returns-in-default
-returns-in-default c =
-    let full = crowded c.args.self.now.slots c.args.self.now.marks c.args.space c.args.page c.requires c.in-default.ensures in
+pub returns-in_default : goal.returns-in_default
+returns-in_default c =
+    let full = crowded c.args.self.now.slots c.args.self.now.marks c.args.space c.args.page c.requires c.in_default.ensures in
     search rules
 
 pub put-requires-2 : goal.put-requires-2
@@ -13,7 +13,7 @@ put-requires-2 c =
     let found = c.in-Some.ensures in
     record {
       kept = c.requires;
-      room = room_wired c.args.self.now.slots c.in-Some.at _ found.0 c.if-not-wired.false (let fits = c.if-not-fits-entry.ensures in grind (arith, nat_tests)) found.1;
+      room = room_wired c.args.self.now.slots c.in-Some.at _ found.0 c.if-not-wired.false (let fits = c.if-not-fits_entry.ensures in grind (arith, nat_tests)) found.1;
     }
 
 pub returns : goal.returns

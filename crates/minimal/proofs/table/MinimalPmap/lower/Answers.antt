@@ -10,8 +10,8 @@ pub returns : goal.returns
 returns c =
     let xs = c.args.self.now.slots in
     let marks = c.args.self.now.marks in
-    let is = sym c.change-slots.ensures in
+    let is = sym c.change_slots.ensures in
     record {
-      meaning = (sym c.if-not-fits-place.ensures, subst (λ ys. Put (shown xs marks) (shown ys marks) c.args.space c.args.page (lowered ((shown xs marks).held c.args.space c.args.page))) is (lowers xs c.requires c.args.space c.args.page marks));
+      meaning = (sym c.if-not-fits_place.ensures, subst (λ ys. Put (shown xs marks) (shown ys marks) c.args.space c.args.page (lowered ((shown xs marks).held c.args.space c.args.page))) is (lowers xs c.requires c.args.space c.args.page marks));
       kept = subst Sound is (changed_sound (Lower c.args.space c.args.page) xs c.requires);
     }
