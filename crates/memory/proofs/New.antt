@@ -1,5 +1,5 @@
 -- A new memory keeps what a memory keeps. Assumes nothing.
-use Rattle.std.proofs.Common.{◌≡◌, ℕ, ◌≤◌, true, ◌&&◌, leb, sym, refl, ap, ◌∙◌, subst, arith}
+use Rattle.std.proofs.Common.{◌≡◌, ℕ, true, leb, sym, subst, arith}
 use Rattle.std.proofs.lemmas.Bool.{and_parts, leb-true}
 use Rattle.pmap.specs.Meaning.{View, Cleared}
 use Rattle.rules.specs.State.{State, fresh}

@@ -1,6 +1,5 @@
 -- What a new memory is, and why none was made. Assumes nothing.
-use Rattle.std.specs.Prelude.{◌≡◌, ℕ, ◌<◌, ◌≤◌, Bool, true, false, ◌&&◌, ◌⊎◌, nat_le}
-use Rattle.refusal.specs.declared.file.FileRefusal.{FileRefusal}
+use Rattle.std.specs.Prelude.{◌≡◌, ℕ, Bool, true, false, ◌&&◌, nat_le}
 use Rattle.refusal.specs.declared.file.FileRefusal.TheVariants.{Size}
 use Rattle.pmap.specs.Meaning.{View, Cleared}
 use Rattle.rules.specs.declared.counts.Counts.{Counts}

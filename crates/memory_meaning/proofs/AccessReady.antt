@@ -1,20 +1,19 @@
 -- Reads, writes and wires leave what a memory keeps; what the pmap may say of them. Assumes nothing.
-use Rattle.std.proofs.Common.{◌≡◌, ℕ, ◌<◌, Bool, true, false, cond, not, ◌||◌, eqb, leb, ◌⊎◌, List, length, get_or, set, is_some, Some, None, Option, sym, refl, ap, ◌∙◌, subst, inl, inr, ⊎_elim, arith}
-use Rattle.std.proofs.lemmas.Bool.{cases_Bool, cond-true, cond-false, both_ways, not-false, eq-eqb, ltb-true, eqb-false}
-use Rattle.refusal.specs.declared.memory.MemoryRefusal.TheVariants.{Range, ReadOnly, Wired as WiredRefusal, WiredFull}
+use Rattle.std.proofs.Common.{◌≡◌, ℕ, ◌<◌, Bool, true, false, cond, not, eqb, length, is_some, Some, None, Option, sym, refl, ap, ◌∙◌, subst, ⊎_elim, arith}
+use Rattle.std.proofs.lemmas.Bool.{cases_Bool, both_ways, eq-eqb, eqb-false}
+use Rattle.refusal.specs.declared.memory.MemoryRefusal.TheVariants.{Range, ReadOnly, Wired as WiredRefusal}
 use Rattle.pmap.specs.Ranges.{fits_place}
-use Rattle.pmap.specs.Meaning.{Mapping, View, Stays, Elsewhere, allows}
+use Rattle.pmap.specs.Meaning.{Mapping, View}
 use Rattle.calls.specs.declared.Call.{Call}
 use Rattle.calls.specs.declared.Call.TheVariants.{Map, Unmap, Protect, Read, Write, Wire, Unwire, Sync}
 use Rattle.rules.specs.declared.region.Region.{Region}
-use Rattle.rules.specs.declared.region.WiredPlace.{WiredPlace}
 use Rattle.rules.specs.Lists.{any}
 use Rattle.rules.specs.State.{State, lie, page_in}
-use Rattle.rules.specs.Refusals.{cover, is_place, free, on_frame, call_refusal, read_refusal, write_refusal, wire_refusal, wants_frame, refusal}
+use Rattle.rules.specs.Refusals.{cover, is_place, free, on_frame, call_refusal, write_refusal, wire_refusal, wants_frame}
 use Rattle.rules.specs.Paging.{load, evict, owner, victim, unused, resident, resident_by, evicted_by, replaced, written_to}
-use Rattle.rules.specs.Rules.{Reply, page_at, moved, written, wired_at, wired_to}
+use Rattle.rules.specs.Rules.{Reply, page_at, written, wired_at, wired_to}
 use Rattle.rules.specs.Good.{Good}
-use Rattle.rules.specs.History.{MayHit, May}
+use Rattle.rules.specs.History.{May}
 use Rattle.rules.proofs.Lists.{first_some, first_passes, first_all_of}
 use Rattle.rules.proofs.Queues.{first_has}
 use Rattle.rules.proofs.Loads.{owner_low, lie_evict}
@@ -22,8 +21,8 @@ use Rattle.rules.proofs.GoodKept.{Brought, refuse_none, brings}
 use Rattle.rules.proofs.Accepted.{Reaches, read_passed, write_passed, wire_passed, not_limited, covered}
 use Rattle.memory_meaning.specs.Matches.{HeldWired, Matches}
 use Rattle.memory_meaning.specs.Ready.{Ready, serves, hits, evictee, dropped_by}
-use Rattle.memory_meaning.specs.Leaves.{Serves, Touches, Forgets, Enters, LeavesBy, mapping_for, entered}
-use Rattle.memory_meaning.proofs.Firsts.{none_some, some_inj, place_test}
+use Rattle.memory_meaning.specs.Leaves.{Serves, Touches, Enters, mapping_for, entered}
+use Rattle.memory_meaning.proofs.Firsts.{none_some, place_test}
 use Rattle.memory_meaning.proofs.Matching.{match_stays, match_enter, match_wire, match_evict, match_load}
 use Rattle.memory_meaning.proofs.Reached.{page_at_is, right_is}
 use Rattle.memory_meaning.proofs.ReadyKept.{ready_by}

@@ -1,23 +1,22 @@
 -- An object page is brought in: what the steps come to. Assumes nothing.
-use Rattle.std.proofs.Common.{◌≡◌, ℕ, ◌+◌, ◌<◌, ◌≤◌, Bool, true, false, cond, not, ◌||◌, eqb, ltb, length, get_or, Some, None, Option, sym, refl, ap, ◌∙◌, subst, arith}
+use Rattle.std.proofs.Common.{◌≡◌, ℕ, ◌<◌, ◌≤◌, true, false, not, eqb, length, get_or, Some, None, sym, refl, ap, ◌∙◌, arith}
 use Rattle.std.proofs.lemmas.Bool.{cond-true, cond-false, lt-ltb, le-ltb, or_left, or_right, or_from}
 use Rattle.refusal.specs.declared.memory.MemoryRefusal.TheVariants.{NoFrame}
 use Rattle.pmap.specs.Meaning.{View}
 use Rattle.rules.specs.declared.answer.Evicted.{Evicted}
 use Rattle.rules.specs.declared.answer.Evicted.TheVariants.{Nothing}
-use Rattle.rules.specs.Lists.{place, any, without}
+use Rattle.rules.specs.Lists.{place, without}
 use Rattle.rules.specs.State.{State, lie}
 use Rattle.rules.specs.Refusals.{free, has_frame, wants_frame}
 use Rattle.rules.specs.Paging.{load, evict, victim, unused, resident, resident_by, evicted_by, replaced, replaced_page, owner}
 use Rattle.rules.specs.Good.{Good, in_use}
 use Rattle.rules.proofs.Lists.{first_passes, length_without}
 use Rattle.rules.proofs.Queues.{first_has}
-use Rattle.rules.proofs.Loads.{lie_low, owner_low, used_low, ready_unused, ready_evicted, lie_loaded, lie_evict}
+use Rattle.rules.proofs.Loads.{owner_low, used_low, ready_unused, ready_evicted, lie_loaded, lie_evict}
 use Rattle.rules.proofs.GoodKept.{brings}
-use Rattle.tables.proofs.Positions.{place_first, place_any, place_inside, nowhere_any}
+use Rattle.tables.proofs.Positions.{place_first, place_any, nowhere_any}
 use Rattle.memory_meaning.specs.Ready.{Brings, NoRoom, evictee, dropped_by, is_none}
 use Rattle.memory_meaning.specs.Evicting.{Evicts}
-use Rattle.memory_meaning.proofs.Firsts.{some_inj}
 
 module _ (v : View) (s : State) (x : ℕ) (good : Good s) where
   -- the page is resident already

@@ -1,14 +1,13 @@
 -- A served call, counted: what the public call promises. Assumes nothing.
-use Rattle.std.proofs.Common.{◌≡◌, ℕ, zero, suc, ◌+◌, ◌*◌, ◌/◌, ◌<◌, ◌≤◌, Bool, true, false, cond, not, ◌&&◌, eqb, ltb, leb, ◌⊎◌, length, Some, None, Ok, Err, Option, Result, sym, refl, ap, ◌∙◌, subst, inl, inr, ⊎_elim, arith}
-use Rattle.std.proofs.lemmas.Bool.{cases_Bool, cond-true, cond-false, lt-leb, le-leb}
+use Rattle.std.proofs.Common.{◌≡◌, ℕ, zero, suc, ◌+◌, ◌/◌, ◌<◌, ◌≤◌, Bool, true, false, cond, not, ◌&&◌, eqb, ltb, leb, length, Some, None, Ok, Err, Option, sym, refl, ap, ◌∙◌, subst, arith}
+use Rattle.std.proofs.lemmas.Bool.{cond-true, cond-false, lt-leb, le-leb}
 use Rattle.refusal.specs.declared.memory.MemoryRefusal.{MemoryRefusal}
-use Rattle.refusal.specs.declared.memory.MemoryRefusal.TheVariants.{CallLimit, Range, Overlap, RegionsFull, NoRegion, ReadOnly, Wired as WiredRefusal, NotWired, WiredFull, NoFrame}
+use Rattle.refusal.specs.declared.memory.MemoryRefusal.TheVariants.{CallLimit, Range, Overlap, RegionsFull, ReadOnly, Wired as WiredRefusal, NotWired, WiredFull, NoFrame}
 use Rattle.pmap.specs.Meaning.{View}
 use Rattle.pmap.specs.Ranges.{fits_place, fits_protection}
 use Rattle.pmap.specs.Tally.{tally}
 use Rattle.calls.specs.declared.Call.{Call}
 use Rattle.calls.specs.declared.Call.TheVariants.{Map, Unmap, Protect, Read, Write, Wire, Unwire, Sync}
-use Rattle.rules.specs.declared.answer.Answer.{Answer}
 use Rattle.rules.specs.declared.answer.Answer.TheVariants.{Done, Read as ReadAnswer, Wrote, Wired, Synced}
 use Rattle.rules.specs.declared.answer.Evicted.{Evicted}
 use Rattle.rules.specs.declared.answer.Evicted.TheVariants.{Nothing, Page}
@@ -20,7 +19,7 @@ use Rattle.rules.specs.Lists.{first, any}
 use Rattle.rules.specs.State.{State, lie, page_in, is_modified}
 use Rattle.rules.specs.Refusals.{refuse, cover, begins, overlaps, is_place, fits_map, wants_frame, read_refusal, write_refusal, wire_refusal, region_refusal, call_refusal, refusal}
 use Rattle.rules.specs.Paging.{evicted_by}
-use Rattle.rules.specs.Rules.{Reply, page_at, one, is_kind, of_kind, loads_in, evicted_in, evictions, savings, stored_in, refused_in, is_limit, added, counted, answer, reply_by, reply, moved_by, after, with_counts}
+use Rattle.rules.specs.Rules.{Reply, page_at, one, is_kind, of_kind, loads_in, evicted_in, evictions, savings, stored_in, refused_in, is_limit, added, counted, reply_by, reply, moved_by, after, with_counts}
 use Rattle.rules.proofs.GoodKept.{good_with_counts}
 use Rattle.memory_meaning.specs.Ready.{Ready, Bounded, hits}
 use Rattle.memory_meaning.specs.Leaves.{Serves, Leaves}

@@ -1,13 +1,12 @@
 -- The steps of an eviction, taken together. Assumes nothing.
-use Rattle.std.proofs.Common.{◌≡◌, ℕ, ◌/◌, ◌%◌, Bool, true, false, cond, get_or, Some, sym, refl, ap, ◌∙◌, subst, ⊎_elim}
+use Rattle.std.proofs.Common.{◌≡◌, ℕ, ◌/◌, ◌%◌, Bool, true, false, cond, get_or, Some, sym, ap, ◌∙◌, subst, ⊎_elim}
 use Rattle.std.proofs.lemmas.Bool.{cases_Bool}
 use Rattle.pmap.specs.Meaning.{View, unmarked, without as without_frame}
-use Rattle.rules.specs.declared.answer.Evicted.{Evicted}
 use Rattle.rules.specs.declared.answer.Evicted.TheVariants.{Page}
 use Rattle.rules.specs.Lists.{place}
 use Rattle.rules.specs.State.{State}
 use Rattle.rules.specs.Refusals.{free}
-use Rattle.rules.specs.Paging.{evict, evicted_page, owner}
+use Rattle.rules.specs.Paging.{evict, owner}
 use Rattle.tables.specs.Held.{with_dirty, saved_to, released}
 use Rattle.tables.proofs.Evictions.{evict_saved, evict_clean}
 use Rattle.memory_meaning.specs.Evicting.{Saves, Evicts}

@@ -1,18 +1,14 @@
 -- An access carried to its frame: a hit, or a fault and the access again. Assumes nothing.
-use Rattle.std.proofs.Common.{◌≡◌, ℕ, Bool, true, false, cond, eqb, ◌⊎◌, Some, None, Option, sym, refl, ap, ◌∙◌, subst, inl, inr, ⊎_elim, arith}
-use mathlib.Core.Path.{fun_ext}
+use Rattle.std.proofs.Common.{◌≡◌, ℕ, Bool, true, false, cond, eqb, Some, None, Option, sym, refl, ap, ◌∙◌, subst, inl, inr, ⊎_elim, arith}
 use Rattle.std.proofs.lemmas.Bool.{cases_Bool, cond-true, cond-false, both_ways, and_parts, and_from, or_cases, eqb-true, lt-ltb}
 use Rattle.refusal.specs.declared.pmap.PmapRefusal.{PmapRefusal}
 use Rattle.refusal.specs.declared.pmap.PmapRefusal.TheVariants.{Range, WiredFull}
 use Rattle.pmap.specs.Ranges.{fits_place, fits_protection, fits_entry}
-use Rattle.pmap.specs.Meaning.{Mapping, View, EnterRefused, Stays, Elsewhere, PutForgetting, is_wired, allows, answered, marked}
-use Rattle.pmap.specs.declared.access.Access.{Access}
+use Rattle.pmap.specs.Meaning.{Mapping, View, EnterRefused, Stays, PutForgetting, is_wired, allows, answered, marked}
 use Rattle.pmap.specs.declared.access.Access.TheVariants.{Hit, Miss}
-use Rattle.rules.specs.declared.answer.Kind.{Kind}
 use Rattle.rules.specs.declared.answer.Kind.TheVariants.{Hit as HitKind, Soft, Hard}
 use Rattle.rules.specs.declared.answer.Evicted.{Evicted}
 use Rattle.rules.specs.declared.answer.Evicted.TheVariants.{Nothing}
-use Rattle.rules.specs.declared.answer.Report.{Report}
 use Rattle.rules.specs.declared.region.Region.{Region}
 use Rattle.rules.specs.State.{State, lie, page_in}
 use Rattle.rules.specs.Refusals.{cover, wants_frame}
@@ -23,7 +19,7 @@ use Rattle.rules.proofs.Loads.{used_low}
 use Rattle.tables.specs.Held.{with_dirty}
 use Rattle.memory_meaning.specs.Matches.{Matches}
 use Rattle.memory_meaning.specs.Ready.{Brings, serves, evictee, dropped_by, is_none}
-use Rattle.memory_meaning.specs.Leaves.{Forgets, Enters, Touches, entered, mapping_for}
+use Rattle.memory_meaning.specs.Leaves.{Touches, mapping_for}
 use Rattle.memory_meaning.specs.Reaching.{Reaches}
 use Rattle.memory_meaning.proofs.Firsts.{some_inj}
 use Rattle.memory_meaning.proofs.Matching.{cases_place}

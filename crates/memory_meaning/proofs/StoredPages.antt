@@ -1,12 +1,10 @@
 -- A sync at the page records: one record, and one more. Assumes nothing.
-use Rattle.std.proofs.Common.{◌≡◌, ℕ, zero, suc, ◌+◌, ◌/◌, ◌<◌, ◌≤◌, Bool, true, false, cond, not, ◌&&◌, ◌||◌, eqb, ◌⊎◌, List, length, get_or, set, Some, None, Option, sym, refl, ap, ◌∙◌, inl, inr, ⊎_elim, add-zero, add-one, arith, length-set, get_or-set_other, get_or-set_same}
-use mathlib.Core.Path.{fun_ext}
-use Rattle.std.proofs.lemmas.Bool.{cases_eq, cases_Bool, cases_lt, cond-true, cond-false, both_ways, and_parts, and_from, and_right, or_cases, or_from, or_parts, eq-eqb, ne_eqb, eqb-true}
-use Rattle.pmap.specs.Meaning.{View, Unmarked, unmarked}
+use Rattle.std.proofs.Common.{◌≡◌, ℕ, zero, suc, ◌+◌, ◌/◌, ◌<◌, Bool, true, false, cond, not, ◌&&◌, ◌||◌, eqb, List, length, get_or, set, Some, None, Option, sym, refl, ap, ◌∙◌, ⊎_elim, add-zero, add-one, arith, length-set, get_or-set_other, get_or-set_same}
+use Rattle.std.proofs.lemmas.Bool.{cases_eq, cases_Bool, cond-true, cond-false, both_ways, and_parts, and_from, and_right, or_from, eq-eqb, ne_eqb}
+use Rattle.pmap.specs.Meaning.{View, Unmarked}
 use Rattle.rules.specs.State.{dirty_in}
 use Rattle.pmap.proofs.Crowds.{tally_none, tally_hit, tally_miss}
 use Rattle.memory_meaning.specs.Storing.{due, word_of, unmarked_in, StoresOne, StoresBelow, OnePageEach, is_frame, held_below}
-use Rattle.memory_meaning.proofs.Firsts.{none_some, some_inj}
 
 module _ (v : View) (before words : List ℕ) (o x : ℕ) where
   pub stores_not : (page : Option ℕ) → due v.modified o x page ≡ false → StoresOne v v before before words o x page false

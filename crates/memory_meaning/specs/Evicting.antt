@@ -1,5 +1,5 @@
 -- The steps of an eviction. Assumes nothing.
-use Rattle.std.specs.Prelude.{◌≡◌, ℕ, Bool, true, false, cond}
+use Rattle.std.specs.Prelude.{◌≡◌, ℕ, Bool, cond}
 use Rattle.pmap.specs.Meaning.{View, unmarked, without as without_frame}
 use Rattle.rules.specs.declared.answer.Evicted.{Evicted}
 use Rattle.rules.specs.State.{State}

@@ -1,7 +1,7 @@
 -- What each call of the memory answers, changes, and leaves in the pmap, up to what the pmap is free to forget. Assumes nothing.
 use Rattle.std.specs.Prelude.{◌≡◌, ℕ, Bool, true, false, cond, ◌&&◌, Some, None, Option, ◌==◌}
 use Rattle.refusal.specs.declared.memory.MemoryRefusal.{MemoryRefusal}
-use Rattle.pmap.specs.Meaning.{Mapping, View, Same, Stays, Elsewhere, lowered}
+use Rattle.pmap.specs.Meaning.{Mapping, View, Stays, Elsewhere, lowered}
 use Rattle.calls.specs.declared.Call.{Call}
 use Rattle.calls.specs.declared.Call.TheVariants.{Map, Unmap, Protect, Read, Write, Wire, Unwire, Sync}
 use Rattle.rules.specs.declared.region.Region.{Region}

@@ -1,5 +1,5 @@
 -- How what the pmap holds fits the memory's regions, resident pages and wired places. Assumes nothing.
-use Rattle.std.specs.Prelude.{◌≡◌, ℕ, Bool, true, false, List, [], ◌∷◌, Some, None, Option, slice_index_or}
+use Rattle.std.specs.Prelude.{◌≡◌, ℕ, true, false, List, [], ◌∷◌, Some, None, Option, slice_index_or}
 use Rattle.std.specs.List.{AllByRecursion as All}
 use Rattle.pmap.specs.Meaning.{Mapping, is_wired}
 use Rattle.rules.specs.declared.region.Region.{Region}

@@ -1,6 +1,6 @@
 -- What a run of pmap calls over the pages of a range does. Assumes nothing.
-use Rattle.std.specs.Prelude.{◌≡◌, ℕ, ◌+◌, Bool, true, false, cond, ◌&&◌, Some, None, Option, ◌==◌, nat_le, nat_lt}
-use Rattle.pmap.specs.Meaning.{Mapping, View, lowered}
+use Rattle.std.specs.Prelude.{◌≡◌, ℕ, ◌+◌, Bool, cond, ◌&&◌, None, Option, ◌==◌, nat_le, nat_lt}
+use Rattle.pmap.specs.Meaning.{Mapping, View}
 
 -- (a, b) is one of count pages of the space from the first on
 unfoldable pub within : ℕ → ℕ → ℕ → ℕ → ℕ → Bool

@@ -1,5 +1,5 @@
 -- An access carried to the frame of its object page. Assumes nothing.
-use Rattle.std.specs.Prelude.{◌≡◌, ℕ, Bool, true, false, cond, not, Some, None, Option}
+use Rattle.std.specs.Prelude.{◌≡◌, ℕ, Bool, cond, not, Some, None, Option}
 use Rattle.refusal.specs.declared.memory.MemoryRefusal.{MemoryRefusal}
 use Rattle.refusal.specs.declared.memory.MemoryRefusal.TheVariants.{Range}
 use Rattle.pmap.specs.Meaning.{View, marked}

@@ -1,21 +1,17 @@
 -- A memory's state, what it keeps, and what each call leaves in its pmap. Assumes nothing.
-use Rattle.std.specs.Prelude.{◌≡◌, ℕ, ◌*◌, ◌≤◌, Bool, true, false, cond, not, ◌&&◌, eqb, List, Some, None, Ok, Err, Option, Result}
+use Rattle.std.specs.Prelude.{◌≡◌, ℕ, ◌*◌, ◌≤◌, Bool, true, false, cond, Some, None, Option}
 use Rattle.refusal.specs.declared.memory.MemoryRefusal.{MemoryRefusal}
-use Rattle.pmap.specs.Meaning.{Mapping, View, Same, Stays, allows, lowered, marked, without as without_frame}
+use Rattle.pmap.specs.Meaning.{Mapping, View, allows, without as without_frame}
 use Rattle.calls.specs.declared.Call.{Call}
 use Rattle.calls.specs.declared.Call.TheVariants.{Map, Unmap, Protect, Read, Write, Wire, Unwire, Sync}
 use Rattle.rules.specs.declared.answer.Evicted.{Evicted}
-use Rattle.rules.specs.declared.answer.Report.{Report}
 use Rattle.rules.specs.declared.counts.Counts.{Counts}
-use Rattle.rules.specs.declared.region.Region.{Region}
-use Rattle.rules.specs.Lists.{first}
-use Rattle.rules.specs.State.{State, lie, page_in}
-use Rattle.rules.specs.Refusals.{cover, covers, begins, refuse, read_refusal, write_refusal, wants_frame}
+use Rattle.rules.specs.State.{State, lie}
+use Rattle.rules.specs.Refusals.{wants_frame}
 use Rattle.rules.specs.Paging.{victim, unused, resident, evicted_by}
-use Rattle.rules.specs.Rules.{page_at, report_of}
 use Rattle.rules.specs.Good.{Good}
 use Rattle.tables.specs.declared.table.Tables.{Tables}
-use Rattle.tables.specs.Held.{state_of, with_dirty}
+use Rattle.tables.specs.Held.{state_of}
 use Rattle.memory_meaning.specs.Matches.{Matches}
 
 abbrev pub memory_state : View → Tables → Counts → State

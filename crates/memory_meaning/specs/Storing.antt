@@ -1,5 +1,5 @@
 -- What a sync does at the page records, one after another. Assumes nothing.
-use Rattle.std.specs.Prelude.{◌≡◌, ℕ, zero, suc, ◌/◌, ◌<◌, ◌≤◌, Bool, true, false, cond, not, ◌&&◌, ◌||◌, List, length, set, Some, None, Option, ◌==◌, slice_index, slice_index_or, slice_set}
+use Rattle.std.specs.Prelude.{◌≡◌, ℕ, zero, suc, ◌/◌, ◌<◌, ◌≤◌, Bool, false, cond, not, ◌&&◌, ◌||◌, List, length, set, Some, None, Option, ◌==◌, slice_index, slice_index_or, slice_set}
 use Rattle.pmap.specs.Meaning.{View, unmarked}
 use Rattle.pmap.specs.Tally.{tally}
 use Rattle.rules.specs.State.{dirty_in}

@@ -2,7 +2,6 @@
 use Rattle.std.specs.Prelude.{◌≡◌, ℕ, ◌<◌, ◌≤◌, Bool, true, false, List, length, Some, nat_eq, slice_index}
 use Rattle.std.specs.List.{AllByRecursion as All}
 use Rattle.rules.specs.declared.region.Region.{Region}
-use Rattle.rules.specs.declared.region.WiredPlace.{WiredPlace}
 use Rattle.rules.specs.Lists.{any}
 use Rattle.rules.specs.State.{State, lie}
 use Rattle.rules.specs.Refusals.{fits_map}

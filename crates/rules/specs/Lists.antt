@@ -1,5 +1,5 @@
 -- The first element of a list that passes a test. Assumes nothing.
-use Rattle.std.specs.Prelude.{ℕ, suc, Bool, true, false, cond, ◌||◌, List, [], ◌∷◌, Some, None, Option}
+use Rattle.std.specs.Prelude.{ℕ, suc, Bool, false, cond, ◌||◌, List, [], ◌∷◌, Some, None, Option}
 
 -- the element
 unfoldable pub first : {A : Type 0} → (A → Bool) → List A → Option A

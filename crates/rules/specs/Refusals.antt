@@ -1,5 +1,5 @@
 -- Which call is refused, and why: of the refusals that fit, the one of the smallest number. Assumes nothing.
-use Rattle.std.specs.Prelude.{ℕ, ◌+◌, Bool, true, false, cond, not, ◌&&◌, ◌||◌, List, length, Some, None, Option, ◌==◌, nat_le, nat_lt}
+use Rattle.std.specs.Prelude.{ℕ, ◌+◌, Bool, cond, not, ◌&&◌, ◌||◌, List, length, Some, None, Option, ◌==◌, nat_le, nat_lt}
 use Rattle.refusal.specs.declared.memory.MemoryRefusal.{MemoryRefusal}
 use Rattle.refusal.specs.declared.memory.MemoryRefusal.TheVariants.{CallLimit, Range, Overlap, RegionsFull, NoRegion, ReadOnly, Wired, NotWired, WiredFull, NoFrame}
 use Rattle.pmap.specs.Ranges.{fits_place, fits_protection}

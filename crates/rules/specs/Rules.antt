@@ -2,7 +2,7 @@
 --
 -- An accepted read or write is a hit exactly where the pmap held, as the call began, a mapping that allows it; that is the one
 -- thing that `hit` tells. Everything else is a function of the state.
-use Rattle.std.specs.Prelude.{ℕ, ◌+◌, Bool, true, false, cond, not, ◌&&◌, ◌||◌, eqb, List, [], ◌∷◌, ◌++◌, is_some, Some, None, Ok, Err, Option, Result}
+use Rattle.std.specs.Prelude.{ℕ, ◌+◌, Bool, true, false, cond, not, List, [], ◌∷◌, ◌++◌, is_some, Some, None, Ok, Err, Option, Result}
 use Rattle.refusal.specs.declared.memory.MemoryRefusal.{MemoryRefusal}
 use Rattle.refusal.specs.declared.memory.MemoryRefusal.TheVariants.{CallLimit, Range, Overlap, RegionsFull, NoRegion, ReadOnly, Wired as WiredRefusal, NotWired, WiredFull, NoFrame, Pmap}
 use Rattle.calls.specs.declared.Call.{Call}
@@ -19,7 +19,7 @@ use Rattle.rules.specs.declared.answer.Answer.TheVariants.{Done, Read as ReadAns
 use Rattle.rules.specs.declared.counts.Counts.{Counts}
 use Rattle.rules.specs.declared.region.Region.{Region}
 use Rattle.rules.specs.declared.region.WiredPlace.{WiredPlace}
-use Rattle.rules.specs.Lists.{first, without, changed}
+use Rattle.rules.specs.Lists.{without, changed}
 use Rattle.rules.specs.State.{State, lie, page_in}
 use Rattle.rules.specs.Refusals.{cover, begins, is_place, refusal}
 use Rattle.rules.specs.Paging.{resident, evicted_by, written_to, word_in, synced, synced_count}

@@ -1,7 +1,7 @@
 -- The state of a memory, apart from what its pmap is free to forget. Assumes nothing.
 --
 -- An object page goes by its number, 256 × object + index; there are 8 objects of 256 pages.
-use Rattle.std.specs.Prelude.{ℕ, ◌+◌, ◌-◌, ◌*◌, Bool, true, false, List, [], replicate, Some, None, Option, slice_index_or}
+use Rattle.std.specs.Prelude.{ℕ, ◌+◌, ◌-◌, ◌*◌, Bool, false, List, [], replicate, Some, None, Option, slice_index_or}
 use Rattle.std.specs.List.{range_with_len}
 use Rattle.rules.specs.declared.counts.Counts.{Counts}
 use Rattle.rules.specs.declared.region.Region.{Region}

@@ -1,12 +1,11 @@
 -- One call more of a run. Assumes nothing.
-use Rattle.std.proofs.Common.{◌≡◌, ℕ, ◌+◌, ◌<◌, ◌≤◌, Bool, true, ◌&&◌, leb, List, [], ◌∷◌, ◌++◌, reverse, length, get_or, take, sym, refl, ap, ◌∙◌, subst}
+use Rattle.std.proofs.Common.{◌≡◌, ℕ, Bool, true, leb, List, [], ◌∷◌, ◌++◌, reverse, sym, refl, ap, ◌∙◌, subst}
 use mathlib.Core.List.{reverse-append}
 use Rattle.std.proofs.lemmas.Bool.{and_parts, leb-true}
 use Rattle.calls.specs.declared.Call.{Call}
 use Rattle.rules.specs.State.{State, fresh}
 use Rattle.rules.specs.Rules.{Reply, reply, after}
 use Rattle.rules.specs.History.{Moment, May, Passed, begun, called, shown}
-use Rattle.rules.specs.Laws.{calls_of, replies_of}
 use Rattle.rules.proofs.Whole.{lawful}
 use Rattle.rules.proofs.Agreement.{agreement}
 use Rattle.memory.specs.Making.{fits_frames}

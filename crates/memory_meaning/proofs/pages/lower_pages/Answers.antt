@@ -1,4 +1,4 @@
-use Rattle.std.proofs.Common.{◌≡◌, ◌+◌, ◌-◌, sym, arith, rules}
+use Rattle.std.proofs.Common.{◌≡◌, ◌+◌, ◌-◌, arith}
 use Rattle.pmap.specs.Meaning.{lowered}
 use Rattle.memory_meaning.proofs.Ranging.{over_none, over_more}
 use Rattle.memory_meaning.proofs.pages.lower_pages.Goals as goal

@@ -1,4 +1,4 @@
-use Rattle.std.proofs.Common.{◌≡◌, ◌+◌, ◌-◌, sym, arith, rules}
+use Rattle.std.proofs.Common.{◌≡◌, ◌+◌, ◌-◌, arith}
 use Rattle.memory_meaning.specs.Ranges.{nothing}
 use Rattle.memory_meaning.proofs.Ranging.{over_none, over_more}
 use Rattle.memory_meaning.proofs.pages.remove_pages.Goals as goal

@@ -1,4 +1,4 @@
-use Rattle.std.proofs.Common.{◌≡◌, ◌/◌, eqb, get_or, set, sym, ap, ◌∙◌, arith}
+use Rattle.std.proofs.Common.{◌/◌, eqb, get_or, set, sym, ap, ◌∙◌}
 use Rattle.std.proofs.lemmas.Bool.{ne_eqb, and_left, and_right}
 use Rattle.rules.specs.State.{dirty_in}
 use Rattle.memory_meaning.proofs.StoredPages.{stores_not, stores_yes}

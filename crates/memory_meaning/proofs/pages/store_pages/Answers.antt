@@ -1,5 +1,4 @@
-use Rattle.std.proofs.Common.{◌≡◌, ℕ, ◌+◌, ◌<◌, ◌≤◌, Bool, true, false, cond, sym, ap, ◌∙◌, subst, add-zero, arith}
-use Rattle.memory_meaning.specs.Storing.{StoresBelow}
+use Rattle.std.proofs.Common.{◌≡◌, ℕ, ◌+◌, ◌≤◌, Bool, true, false, cond, sym, ap, ◌∙◌, add-zero, arith}
 use Rattle.memory_meaning.proofs.StoredPages.{stores_none, stores_more}
 use Rattle.memory_meaning.proofs.pages.store_pages.Goals as goal
 use Rattle.memory_meaning.proofs.pages.store_pages.Goals.{then-branch, else-branch}

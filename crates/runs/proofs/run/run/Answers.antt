@@ -1,4 +1,4 @@
-use Rattle.std.proofs.Common.{◌≡◌, [], vec_items, sym, subst, arith}
+use Rattle.std.proofs.Common.{[], vec_items, sym, subst}
 use Rattle.memory_meaning.specs.Ready.{memory_state}
 use Rattle.runs.specs.RunLaw.{Trail}
 use Rattle.runs.proofs.Trails.{trail_none, run_law}

@@ -11,9 +11,9 @@ returns g c =
     let s = c.args.self.now in
     let t = c.serve.new.self in
     let m : Mapping = (c.in-Some.field-0-0, c.in-Some.protection, c.in-Some.field-0-2) in
-    let held : (joint v w s).held c.args.space c.args.page ≡ Some m = sym c.in-ok-protection.ensures.1 ∙ c.in-Some.is in
+    let held : (joint v w s).held c.args.space c.args.page ≡ Some m = sym c.in_ok-protection.ensures.1 ∙ c.in-Some.is in
     let may : allows c.in-Some.protection c.args.write ≡ true = sym c.if-not-allows.ensures in
-    let l = access_lifts v w s t c.args.space c.args.page c.args.write m c.serve.result c.requires.2 held may c.in-ok-protection.ensures.0 c.serve.ensures.halves in
+    let l = access_lifts v w s t c.args.space c.args.page c.args.write m c.serve.result c.requires.2 held may c.in_ok-protection.ensures.0 c.serve.ensures.halves in
     record {
       meaning = l.1;
       kept = (c.serve.ensures.kept.0, c.serve.ensures.kept.1, l.2);

@@ -6,7 +6,7 @@ returns g c =
     let v = g.P.Pmap.view in
     let w = g.Q.Pmap.view in
     let s = c.args.self.now in
-    let one = c.in-ok-lower.ensures.meaning in
+    let one = c.in_ok-lower.ensures.meaning in
     let l = lower_lifts (v s.first) (v c.lower.new.self) (w s.second) (w c.lower-2.new.self) c.args.space c.args.page c.requires.2 one.0 one.1 c.lower-2.result c.lower-2.ensures.meaning in
     record {
       meaning = l.joint;

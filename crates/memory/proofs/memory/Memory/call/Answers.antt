@@ -1,5 +1,5 @@
-use Rattle.std.proofs.Common.{◌≡◌, sym, refl, ap, ◌∙◌, subst, arith}
-use Rattle.rules.specs.Rules.{added, with_counts}
+use Rattle.std.proofs.Common.{sym, ap, ◌∙◌, subst}
+use Rattle.rules.specs.Rules.{with_counts}
 use Rattle.memory_meaning.specs.Ready.{memory_state, Ready}
 use Rattle.memory_meaning.proofs.Counted.{few_stored, called_answer, called_state, called_view, called_ready, limit_answer, limit_state, limit_view}
 use Rattle.memory.proofs.memory.Memory.call.Goals as goal

@@ -1,10 +1,9 @@
-use Rattle.std.proofs.Common.{◌≡◌, ◌<◌, sym, refl, ap, ◌∙◌, subst, arith}
-use Rattle.rules.specs.State.{page_in}
+use Rattle.std.proofs.Common.{◌<◌, arith}
 use Rattle.rules.specs.Paging.{resident}
 use Rattle.rules.proofs.Accepted.{covered}
 use Rattle.rules.proofs.GoodKept.{good_resident}
-use Rattle.memory_meaning.specs.Ready.{memory_state, Brings}
-use Rattle.memory_meaning.proofs.Reached.{enter_passes, entry_fits, reaches_fault}
+use Rattle.memory_meaning.specs.Ready.{memory_state}
+use Rattle.memory_meaning.proofs.Reached.{enter_passes, entry_fits}
 use Rattle.memory.proofs.memory.Memory.fault.Goals as goal
 
 pub bring-requires : goal.bring-requires

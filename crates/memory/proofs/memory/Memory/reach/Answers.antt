@@ -1,7 +1,6 @@
-use Rattle.std.proofs.Common.{◌≡◌, true, sym, refl, ap, ◌∙◌, subst, ⊎_elim}
+use Rattle.std.proofs.Common.{sym, refl, ap, ◌∙◌, subst, ⊎_elim}
 use Rattle.std.proofs.lemmas.Bool.{both_ways}
-use Rattle.pmap.specs.Meaning.{Accessed, Same, answered}
-use Rattle.pmap.specs.declared.access.Access.TheVariants.{Hit, Miss}
+use Rattle.pmap.specs.Meaning.{Accessed, Same}
 use Rattle.rules.specs.State.{lie}
 use Rattle.rules.specs.Refusals.{wants_frame}
 use Rattle.rules.proofs.Accepted.{covered}

@@ -1,4 +1,4 @@
-use Rattle.std.proofs.Common.{◌≡◌, sym, ap, ◌∙◌}
+use Rattle.std.proofs.Common.{sym, ap, ◌∙◌}
 use Rattle.tables.specs.Held.{with_dirty, saved_to}
 use Rattle.memory_meaning.specs.Ready.{memory_state}
 use Rattle.memory.proofs.memory.Memory.save_modified.Goals as goal

@@ -1,4 +1,4 @@
-use Rattle.std.proofs.Common.{◌≡◌, ◌<◌, length, vec_items, sym, refl, ap, ◌∙◌, subst, arith}
+use Rattle.std.proofs.Common.{◌<◌, length, vec_items, sym, refl, ap, ◌∙◌, subst, arith}
 use Rattle.pmap.specs.Meaning.{is_wired}
 use Rattle.rules.specs.State.{lie}
 use Rattle.rules.specs.Paging.{resident}
