@@ -8,4 +8,4 @@ tested : (xs ys : List ℕ) (r : Bool) → Decides r (xs ≡ ys) → r ≡ bytes
 tested xs ys r h = search (rules, bytes_eq-Decides)
 
 pub returns : goal.returns
-returns c = tested _ _ _ (rw c.as-bytes.ensures.value at (slice_eq-Decides Decides-eqb _ _ _ c.eq.ensures))
+returns c = tested _ _ _ (rw c.as_bytes.ensures.value at (slice_eq-Decides Decides-eqb _ _ _ c.eq.ensures))
