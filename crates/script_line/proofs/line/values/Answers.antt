@@ -35,7 +35,7 @@ done fs i v ws total h e inv = sym (at_drop_all (Î» xs. filled xs v ws) fs i h â
 
 pub returns-in_err-value : goal.returns-in_err-value
 returns-in_err-value c =
-    let p = err_from_is_err_and c.from-residual.result c.from-residual.ensures.1 in
+    let p = err_from_is_err_and c.from_residual.result c.from_residual.ensures.1 in
     rw (p.1, p.2)
     (fails c.args.fields.now c.loop-field.field-index _ c.loop-field.values (words_at c.args.words.now.text.now c.loop-field.words.at) _ _
     c.loop-field-test.true (rw c.loop-field.invariant.0 at c.in_err-value.ensures.value) c.loop-field.invariant.1)
