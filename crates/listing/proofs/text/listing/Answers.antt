@@ -10,7 +10,7 @@ returns-in-Ok c =
     let bytes = c.args.bytes.now in
     let frames = c.in-Ok.trace.frames in
     let law = c.in-Ok.ensures in
-    IfOk-weaker c.trace-text.result
+    IfOk-weaker c.trace_text.result
     (λ t. string_bytes t ≡ trace_text frames (vec_items c.in-Ok.trace.entries)) (λ t. string_bytes t ≡ listing_text bytes)
     (λ t e. e ∙ ap (trace_text frames) law.whole ∙ sym (ap (λ x. text_by x (entries_of bytes)) law.passed))
-    c.trace-text.ensures
+    c.trace_text.ensures

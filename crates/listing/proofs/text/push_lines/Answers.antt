@@ -11,7 +11,7 @@ again old new piece line rest left total put is more whole =
 pub loop-item-preserved : goal.loop-item-preserved
 unfolding lines
 loop-item-preserved c =
-    again _ _ _ _ _ _ _ c.in-ok-push-str.ensures.bytes (c.as-str.ensures.value ∙ c.in-ok-format.ensures.ok)
+    again _ _ _ _ _ _ _ c.in_ok-push_str.ensures.bytes (c.as_str.ensures.value ∙ c.in_ok-format.ensures.ok)
     (at_drop_more lines c.args.entries.now c.loop-item.item-index _ c.loop-item-test.true) c.loop-item.invariant
 
 pub returns : goal.returns

@@ -12,6 +12,6 @@ built es lent again frames records refused base front last out o f l b w n t a =
 
 pub returns : goal.returns
 returns c =
-    built _ _ _ _ _ _ _ _ _ _ c.in-ok-push-str.ensures.bytes c.in-ok-push-lines.ensures c.deref.ensures.value c.new-text.ensures.bytes
-    (c.as-str.ensures.value ∙ c.in-ok-format.ensures.ok) (c.len-records.ensures ∙ c.args.trace.now.entries.ok.0)
-    c.turned-away-refused.ensures c.deref-2.ensures.value
+    built _ _ _ _ _ _ _ _ _ _ c.in_ok-push_str.ensures.bytes c.in_ok-push_lines.ensures c.deref.ensures.value c.new-text.ensures.bytes
+    (c.as_str.ensures.value ∙ c.in_ok-format.ensures.ok) (c.len-records.ensures ∙ c.args.trace.now.entries.ok.0)
+    c.turned_away-refused.ensures c.deref-2.ensures.value

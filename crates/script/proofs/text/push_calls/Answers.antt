@@ -11,7 +11,7 @@ again old new piece line rest left total put is more whole =
 pub loop-call-preserved : goal.loop-call-preserved
 unfolding call_lines
 loop-call-preserved c =
-    again _ _ _ _ _ _ _ c.in-ok-push-str.ensures.bytes (c.as-str.ensures.value ∙ c.in-ok-format.ensures.ok)
+    again _ _ _ _ _ _ _ c.in_ok-push_str.ensures.bytes (c.as_str.ensures.value ∙ c.in_ok-format.ensures.ok)
     (at_drop_more call_lines c.args.calls.now c.loop-call.call-index _ c.loop-call-test.true) c.loop-call.invariant
 
 pub returns : goal.returns

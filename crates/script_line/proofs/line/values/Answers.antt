@@ -33,19 +33,19 @@ done : (fs : List Field) (i : ℕ) (v : Values) (ws : List (List ℕ)) (total : 
 unfolding filled
 done fs i v ws total h e inv = sym (at_drop_all (λ xs. filled xs v ws) fs i h ∙ ap (filled [] v) e) ∙ inv
 
-pub returns-in-err-value : goal.returns-in-err-value
-returns-in-err-value c =
-    let p = err_from_is_err_and c.from-residual.result c.from-residual.ensures.1 in
+pub returns-in_err-value : goal.returns-in_err-value
+returns-in_err-value c =
+    let p = err_from_is_err_and c.from_residual.result c.from_residual.ensures.1 in
     rw (p.1, p.2)
     (fails c.args.fields.now c.loop-field.field-index _ c.loop-field.values (words_at c.args.words.now.text.now c.loop-field.words.at) _ _
-    c.loop-field-test.true (rw c.loop-field.invariant.0 at c.in-err-value.ensures.value) c.loop-field.invariant.1)
+    c.loop-field-test.true (rw c.loop-field.invariant.0 at c.in_err-value.ensures.value) c.loop-field.invariant.1)
 
 pub loop-field-preserved : goal.loop-field-preserved
 loop-field-preserved c =
-    let law = c.in-ok-value.ensures in (
+    let law = c.in_ok-value.ensures in (
       law.text ∙ c.loop-field.invariant.0,
       put c.args.fields.now c.loop-field.field-index _ c.loop-field.values c.put.new.self (words_at c.args.words.now.text.now c.loop-field.words.at)
-          (words_at c.args.words.now.text.now c.field-value.new.words.at) c.in-ok-value.value _
+          (words_at c.args.words.now.text.now c.field_value.new.words.at) c.in_ok-value.value _
           c.loop-field-test.true (rw c.loop-field.invariant.0 at law.value) c.put.ensures c.loop-field.invariant.1,
     )
 

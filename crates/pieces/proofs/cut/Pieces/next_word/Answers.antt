@@ -27,13 +27,13 @@ stop : (text old : List ℕ) (start at : ℕ) → old ≡ text → words_at text
 unfolding solid
 stop text old start at e inv split = sym inv ∙ ap solid (rw e at split)
 
-pub returns-then-not-is-empty : goal.returns-then-not-is-empty
-returns-then-not-is-empty c =
+pub returns-then-not-is_empty : goal.returns-then-not-is_empty
+returns-then-not-is_empty c =
     let inv = c.loop-piece.invariant in
     let law = c.in-Some.ensures in
-    let some : 0 < length c.in-Some.piece.now = grind (arith, nat_tests, c.if-not-is-empty.ensures) in
+    let some : 0 < length c.in-Some.piece.now = grind (arith, nat_tests, c.if-not-is_empty.ensures) in
     record {
-      split = keep c.args.self.now.text.now c.loop-piece.self.text.now c.in-Some.piece.now c.args.self.now.at c.loop-piece.self.at c.next-piece.new.self.at
+      split = keep c.args.self.now.text.now c.loop-piece.self.text.now c.in-Some.piece.now c.args.self.now.at c.loop-piece.self.at c.next_piece.new.self.at
           inv.0 inv.1 law.split some;
       text = law.text ∙ inv.0;
       some = some;
@@ -43,16 +43,16 @@ pub loop-piece-preserved : goal.loop-piece-preserved
 loop-piece-preserved c =
     let inv = c.loop-piece.invariant in
     let law = c.in-Some.ensures in
-    let none : length c.in-Some.piece.now ≡ 0 = grind (arith, nat_tests, c.if-not-is-empty.ensures) in (
+    let none : length c.in-Some.piece.now ≡ 0 = grind (arith, nat_tests, c.if-not-is_empty.ensures) in (
       law.text ∙ inv.0,
-      skip c.args.self.now.text.now c.loop-piece.self.text.now c.in-Some.piece.now c.args.self.now.at c.loop-piece.self.at c.next-piece.new.self.at
+      skip c.args.self.now.text.now c.loop-piece.self.text.now c.in-Some.piece.now c.args.self.now.at c.loop-piece.self.at c.next_piece.new.self.at
           inv.0 inv.1 law.split none,
     )
 
 pub returns : goal.returns
 returns c =
     let inv = c.loop-piece.invariant in
-    let law = c.in-default.ensures in
+    let law = c.in_default.ensures in
     record {
       split = stop c.args.self.now.text.now c.loop-piece.self.text.now c.args.self.now.at c.loop-piece.self.at inv.0 inv.1 law.split;
       text = law.text ∙ inv.0;
