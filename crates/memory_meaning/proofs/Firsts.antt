@@ -1,6 +1,6 @@
 -- Laws of the first element that passes a test, and of lists of wired places. Assumes nothing.
 use Rattle.std.proofs.Common.{◌≡◌, ℕ, Bool, true, false, cond, ◌||◌, eqb, ◌⊎◌, List, [], ◌∷◌, ◌++◌, Some, None, Option, sym, refl, ap, ◌∙◌, inl, inr, ⊎_elim, arith}
-use Rattle.std.specs.List.{AllByRecursion as All}
+use Rattle.std.specs.List.{AllByRecursion}
 use Rattle.std.proofs.lemmas.Bool.{cases_Bool, cond-true, cond-false, both_ways, or_parts, and_parts, and_from, eqb-true, eq-eqb}
 use Rattle.rules.specs.declared.region.WiredPlace.{WiredPlace}
 use Rattle.rules.specs.Lists.{first, any, without, changed}
@@ -84,14 +84,14 @@ module _ {A : Type 0} (test : A → Bool) where
       or_assoc false b c = refl
 
   -- what holds of each, where none passes the test, from what holds of each that does not pass it
-  pub all_untested : (P Q : A → Type 0) → ((x : A) → test x ≡ false → P x → Q x) → (xs : List A) → any test xs ≡ false → All P xs → All Q xs
+  pub all_untested : (P Q : A → Type 0) → ((x : A) → test x ≡ false → P x → Q x) → (xs : List A) → any test xs ≡ false → AllByRecursion P xs → AllByRecursion Q xs
   unfolding any
   all_untested P Q f [] n h = tt
   all_untested P Q f (x ∷ xs) n h =
       let parts = or_parts (test x) (any test xs) n in
       (f x parts.0 h.0, all_untested P Q f xs parts.1 h.1)
 
-  pub all_without : (P : A → Type 0) (xs : List A) → All P xs → All P (without test xs)
+  pub all_without : (P : A → Type 0) (xs : List A) → AllByRecursion P xs → AllByRecursion P (without test xs)
   unfolding without
   all_without P [] h = tt
   all_without P (x ∷ xs) h = ⊎_elim

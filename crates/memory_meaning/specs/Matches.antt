@@ -1,6 +1,6 @@
 -- How what the pmap holds fits the memory's regions, resident pages and wired places. Assumes nothing.
 use Rattle.std.specs.Prelude.{◌≡◌, ℕ, true, false, List, [], ◌∷◌, Some, None, Option, slice_index_or}
-use Rattle.std.specs.List.{AllByRecursion as All}
+use Rattle.std.specs.List.{AllByRecursion}
 use Rattle.pmap.specs.Meaning.{Mapping, is_wired}
 use Rattle.rules.specs.declared.region.Region.{Region}
 use Rattle.rules.specs.declared.region.WiredPlace.{WiredPlace}
@@ -28,6 +28,6 @@ PlacesApart (w ∷ ws) = (any (is_place w.space w.page) ws ≡ false) × PlacesA
 
 pub record Matches (held : ℕ → ℕ → Option Mapping) (rs : List Region) (ls : List (Option ℕ)) (ws : List WiredPlace) : Type 0 where
   pub covered : (a b : ℕ) (m : Mapping) → held a b ≡ Some m → Covered rs ls a b m
-  pub wired : All (HeldWired held rs) ws
+  pub wired : AllByRecursion (HeldWired held rs) ws
   pub listed : (a b : ℕ) → is_wired (held a b) ≡ true → any (is_place a b) ws ≡ true
   pub apart : PlacesApart ws

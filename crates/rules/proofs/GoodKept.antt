@@ -1,6 +1,6 @@
 -- Each call leaves what the state of a memory keeps. Assumes nothing.
 use Rattle.std.proofs.Common.{◌≡◌, ℕ, ◌+◌, ◌*◌, ◌/◌, ◌%◌, ◌<◌, ◌≤◌, Bool, true, false, cond, not, ◌&&◌, eqb, List, [], ◌∷◌, ◌++◌, length, get_or, replicate, Some, None, Option, sym, refl, ap, ◌∙◌, ⊎_elim, arith}
-use Rattle.std.specs.List.{AllByRecursion as All}
+use Rattle.std.specs.List.{AllByRecursion}
 use Rattle.std.proofs.lemmas.List.{length-set, length_push, length-replicate, get_or-replicate, get_or-set_other, get_or_past}
 use Rattle.std.proofs.lemmas.List.FromFn.{length-range_with_len, length-map-range_with_len, get_or-map-range_with_len}
 use Rattle.std.proofs.ByRecursion.{All-push}
@@ -175,7 +175,7 @@ good_fresh n few = record {
 
 -- other regions, wired places or counts
 
-good_with : (s : State) (rs : List Region) (ws : List WiredPlace) (n : Counts) → Good s → length rs ≤ 64 → All RegionFits rs → length ws ≤ 8 → All (λ w. in_use s w.frame ≡ true) ws → Good (with_counts (with_wired (with_regions s rs) ws) n)
+good_with : (s : State) (rs : List Region) (ws : List WiredPlace) (n : Counts) → Good s → length rs ≤ 64 → AllByRecursion RegionFits rs → length ws ≤ 8 → AllByRecursion (λ w. in_use s w.frame ≡ true) ws → Good (with_counts (with_wired (with_regions s rs) ws) n)
 good_with s rs ws n g rs-few rs-fit ws-few ws-used = record {
   frames_few = g.frames_few;
   lies_long = g.lies_long;
@@ -196,10 +196,10 @@ good_with s rs ws n g rs-few rs-fit ws-few ws-used = record {
   wired_used = ws-used;
 }
 
-pub good_with_regions : (s : State) (rs : List Region) → Good s → length rs ≤ 64 → All RegionFits rs → Good (with_regions s rs)
+pub good_with_regions : (s : State) (rs : List Region) → Good s → length rs ≤ 64 → AllByRecursion RegionFits rs → Good (with_regions s rs)
 good_with_regions s rs g few fit = good_with s rs s.wired s.counts g few fit g.wired_few g.wired_used
 
-pub good_with_wired : (s : State) (ws : List WiredPlace) → Good s → length ws ≤ 8 → All (λ w. in_use s w.frame ≡ true) ws → Good (with_wired s ws)
+pub good_with_wired : (s : State) (ws : List WiredPlace) → Good s → length ws ≤ 8 → AllByRecursion (λ w. in_use s w.frame ≡ true) ws → Good (with_wired s ws)
 good_with_wired s ws g few used = good_with s s.regions ws s.counts g g.regions_few g.regions_fit few used
 
 pub good_with_counts : (s : State) (n : Counts) → Good s → Good (with_counts s n)

@@ -1,6 +1,6 @@
 -- The first element that passes a test: where it stands, and the list without it or with it changed. Assumes nothing.
 use Rattle.std.proofs.Common.{◌≡◌, ℕ, zero, suc, ◌+◌, ◌<◌, ◌≤◌, Bool, true, false, ◌||◌, List, [], ◌∷◌, ◌++◌, length, get_or, take, drop, set, is_some, Some, None, Option, sym, refl, ap, ◌∙◌, ⊎_elim, add-one, arith}
-use Rattle.std.specs.List.{AllByRecursion as All}
+use Rattle.std.specs.List.{AllByRecursion}
 use Rattle.std.proofs.lemmas.List.{drop_more, drop_all}
 use Rattle.std.proofs.lemmas.Bool.{cases_Bool, or_parts, or_left, or_right}
 use Rattle.rules.specs.Lists.{first, further, place, any, without, changed}
@@ -87,7 +87,7 @@ module _ {A : Type 0} (test : A → Bool) where
   first_any xs y e = any_first xs ∙ ap is_some e
 
   -- what holds of all elements holds of the first that passes
-  pub first_all_of : (P : A → Type 0) (xs : List A) (y : A) → All P xs → first test xs ≡ Some y → P y
+  pub first_all_of : (P : A → Type 0) (xs : List A) (y : A) → AllByRecursion P xs → first test xs ≡ Some y → P y
   unfolding first
   first_all_of P [] y all e = never (cc)
   first_all_of P (x ∷ xs) y all e = ⊎_elim
@@ -95,7 +95,7 @@ module _ {A : Type 0} (test : A → Bool) where
       (λ (t : test x ≡ false). first_all_of P xs y all.1 (simp t at e))
       (cases_Bool (test x))
 
-  pub all_false : (xs : List A) → any test xs ≡ false → All (λ x. test x ≡ false) xs
+  pub all_false : (xs : List A) → any test xs ≡ false → AllByRecursion (λ x. test x ≡ false) xs
   unfolding any
   all_false [] e = tt
   all_false (x ∷ xs) e = let parts = or_parts (test x) (any test xs) e in (parts.0, all_false xs parts.1)
@@ -137,7 +137,7 @@ module _ {A : Type 0} (test : A → Bool) where
       (λ (t : test x ≡ false). let rest = length_without_le xs in simp t (omega arith))
       (cases_Bool (test x))
 
-  pub all_without : (P : A → Type 0) (xs : List A) → All P xs → All P (without test xs)
+  pub all_without : (P : A → Type 0) (xs : List A) → AllByRecursion P xs → AllByRecursion P (without test xs)
   unfolding without
   all_without P [] all = tt
   all_without P (x ∷ xs) all = ⊎_elim
@@ -164,7 +164,7 @@ module _ {A : Type 0} (test : A → Bool) where
       (λ (t : test x ≡ false). simp t (ap suc (length_changed f xs)))
       (cases_Bool (test x))
 
-  pub all_changed : (f : A → A) (P : A → Type 0) → ((x : A) → P x → P (f x)) → (xs : List A) → All P xs → All P (changed test f xs)
+  pub all_changed : (f : A → A) (P : A → Type 0) → ((x : A) → P x → P (f x)) → (xs : List A) → AllByRecursion P xs → AllByRecursion P (changed test f xs)
   unfolding changed
   all_changed f P keep [] all = tt
   all_changed f P keep (x ∷ xs) all = ⊎_elim

@@ -1,6 +1,6 @@
 -- A page that is evicted and a page that is loaded leave what the state keeps. Assumes nothing.
 use Rattle.std.proofs.Common.{◌≡◌, ℕ, ◌+◌, ◌<◌, ◌≤◌, true, false, not, eqb, ◌⊎◌, List, [], ◌∷◌, length, get_or, set, Some, None, Option, sym, refl, ap, ◌∙◌, inl, inr, ⊎_elim, arith}
-use Rattle.std.specs.List.{AllByRecursion as All}
+use Rattle.std.specs.List.{AllByRecursion}
 use Rattle.std.proofs.lemmas.List.{length-set, length_push, get_or-set_same, get_or-set_other, get_or_past}
 use Rattle.std.proofs.ByRecursion.{All-weaker}
 use Rattle.std.proofs.lemmas.Bool.{cases_Bool, cases_eq, cases_lt, ne_eqb, eqb-false, both_ways, not-true, and_parts, cond_both}
@@ -42,7 +42,7 @@ pub record Ready (s : State) (f : ℕ) : Type 0 where
   pub words_long : length s.words ≡ 256
   pub store_long : length s.store ≡ 2048
   pub regions_few : length s.regions ≤ 64
-  pub regions_fit : All RegionFits s.regions
+  pub regions_fit : AllByRecursion RegionFits s.regions
   pub room : length s.queue < s.frames
   pub low : f ≤ length s.queue
   pub new : in_use s f ≡ false
@@ -54,7 +54,7 @@ pub record Ready (s : State) (f : ℕ) : Type 0 where
   pub dirty_used : (g : ℕ) → s.dirty g ≡ true → in_use s g ≡ true
   pub clean : (x g : ℕ) → lie s x ≡ Some g → s.dirty g ≡ false → get_or s.words g 0 ≡ get_or s.store x 0
   pub wired_few : length s.wired ≤ 8
-  pub wired_used : All (λ w. in_use s w.frame ≡ true) s.wired
+  pub wired_used : AllByRecursion (λ w. in_use s w.frame ≡ true) s.wired
 
 -- while frames are unused, the next is the one after those in use
 pub ready_unused : (s : State) → Good s → length s.queue < s.frames → Ready s (length s.queue)
@@ -167,7 +167,7 @@ module _ (s : State) (f : ℕ) (g : Good s) (used : in_use s f ≡ true) where
       fewer : length (without (eqb f) s.queue) + 1 ≡ length s.queue
       fewer = length_without (eqb f) s.queue used
 
-      wired_still : (ws : List WiredPlace) → All (λ w. on_frame f w ≡ false) ws → All (λ w. in_use s w.frame ≡ true) ws → All (λ w. in_use (evict s f) w.frame ≡ true) ws
+      wired_still : (ws : List WiredPlace) → AllByRecursion (λ w. on_frame f w ≡ false) ws → AllByRecursion (λ w. in_use s w.frame ≡ true) ws → AllByRecursion (λ w. in_use (evict s f) w.frame ≡ true) ws
       wired_still [] others all = tt
       wired_still (w ∷ ws) others all = (used_still w.frame (eqb-false w.frame f others.0) all.0, wired_still ws others.1 all.1)
 

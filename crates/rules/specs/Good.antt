@@ -1,6 +1,6 @@
 -- What the state of a memory keeps from new on. Assumes nothing.
 use Rattle.std.specs.Prelude.{◌≡◌, ℕ, ◌<◌, ◌≤◌, Bool, true, false, List, length, Some, nat_eq, slice_index}
-use Rattle.std.specs.List.{AllByRecursion as All}
+use Rattle.std.specs.List.{AllByRecursion}
 use Rattle.rules.specs.declared.region.Region.{Region}
 use Rattle.rules.specs.Lists.{any}
 use Rattle.rules.specs.State.{State, lie}
@@ -25,7 +25,7 @@ pub record Good (s : State) : Type 0 where
   pub words_long : length s.words ≡ 256
   pub store_long : length s.store ≡ 2048
   pub regions_few : length s.regions ≤ 64
-  pub regions_fit : All RegionFits s.regions
+  pub regions_fit : AllByRecursion RegionFits s.regions
   -- the frames in use are those below their number, each once
   pub queue_few : length s.queue ≤ s.frames
   pub queue_low : (f : ℕ) → in_use s f ≡ true → f < length s.queue
@@ -38,4 +38,4 @@ pub record Good (s : State) : Type 0 where
   pub dirty_used : (f : ℕ) → s.dirty f ≡ true → in_use s f ≡ true
   pub clean : (x f : ℕ) → lie s x ≡ Some f → s.dirty f ≡ false → slice_index s.words f ≡ slice_index s.store x
   pub wired_few : length s.wired ≤ 8
-  pub wired_used : All (λ w. in_use s w.frame ≡ true) s.wired
+  pub wired_used : AllByRecursion (λ w. in_use s w.frame ≡ true) s.wired
