@@ -1,5 +1,5 @@
 -- What is made of a frame count and calls: their text, and the bytes of their trace. Assumes nothing of the calls.
-use Rattle.std.specs.Prelude.{◌≡◌, ℕ, cond, List, [], ◌∷◌, ◌++◌, length, Some, None, Ok, Err, codes, decimal, Option, Result, nat_lt}
+use Rattle.std.specs.Prelude.{◌≡◌, ℕ, cond, List, [], ◌∷◌, ◌++◌, length, Some, None, Ok, Err, codes, decimal, Result, nat_lt}
 use Rattle.refusal.specs.declared.file.FileRefusal.{FileRefusal}
 use Rattle.refusal.specs.declared.file.FileRefusal.TheVariants.{Size}
 use Rattle.calls.specs.declared.Call.{Call}

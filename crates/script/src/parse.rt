@@ -105,7 +105,7 @@ fn record_at(line: Line<'_>, before: usize) -> Result<Call, Fault>
 // The calls of the lines that are left.
 fn records(heap: Global, rest: &mut Rest<'_>) -> Result<Vec<Call>, ParseError>
     requires { rest.old.number ≤ rest.old.lines.at + 1 }
-    ensures { MatchResult result (λ v. records_in [] (spoken rest.entry.now.number (pieces_at Lines rest.entry.now.lines.text.now rest.entry.now.lines.at)) ≡ Ok v.items) (λ e. elim e [ Text f ↦ records_in [] (spoken rest.entry.now.number (pieces_at Lines rest.entry.now.lines.text.now rest.entry.now.lines.at)) ≡ Err f | Memory ↦ Unit {0} ]) }
+    ensures { MatchResult result (λ v. records_in [] (spoken rest.old.number (pieces_at Lines rest.old.lines.text.now rest.old.lines.at)) ≡ Ok v.items) (λ e. elim e [ Text f ↦ records_in [] (spoken rest.old.number (pieces_at Lines rest.old.lines.text.now rest.old.lines.at)) ≡ Err f | Memory ↦ Unit {0} ]) }
 {
     let mut calls = Vec::new(heap);
     while let Some(line) = rest.next_line() {

@@ -27,11 +27,11 @@ done cs i out total h inv = sym inv ∙ at_drop_all (bytes_from out) cs i h
 
 pub loop-call-preserved : goal.loop-call-preserved
 loop-call-preserved c =
-    put c.args.calls.now c.loop-call.call-index _ (vec_items c.loop-call.bytes) _ _ _ c.loop-call-test.true (sym c.in-Some.ensures.value)
+    put c.args.calls.now c.loop-call.call-index _ (vec_items c.loop-call.bytes) _ _ _ c.loop-call-test.true (ap encoded (sym c.record_of.ensures) ∙ sym c.in-Some.ensures.value)
     c.in_ok-extend_from_slice.ensures.items c.loop-call.invariant
 
 pub returns-in_default : goal.returns-in_default
-returns-in_default c = misfit c.args.calls.now c.loop-call.call-index _ (vec_items c.loop-call.bytes) _ c.loop-call-test.true (sym c.in_default.ensures.value) c.loop-call.invariant
+returns-in_default c = misfit c.args.calls.now c.loop-call.call-index _ (vec_items c.loop-call.bytes) _ c.loop-call-test.true (ap encoded (sym c.record_of.ensures) ∙ sym c.in_default.ensures.value) c.loop-call.invariant
 
 pub returns : goal.returns
 returns c = done c.args.calls.now c.loop-call.call-index (vec_items c.loop-call.bytes) _ c.loop-call-test.false c.loop-call.invariant

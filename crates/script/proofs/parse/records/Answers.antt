@@ -9,7 +9,7 @@ use Rattle.script.proofs.parse.records.Goals as goal
 
 pub returns-in_err-call : goal.returns-in_err-call
 returns-in_err-call c =
-    let p = err_from_is_err_and c.from-residual.result c.from-residual.ensures.1 in
+    let p = err_from_is_err_and c.from_residual.result c.from_residual.ensures.1 in
     let inv = c.loop-line.invariant in
     rw (p.1, p.2)
     (record_fails (vec_items c.loop-line.calls) c.len-before.result c.in-Some.line.number c.in-Some.line.text.now _

@@ -1,5 +1,5 @@
 -- A line that says nothing is passed over; the first other one is the answer.
-use Rattle.std.proofs.Common.{sym, ◌∙◌, arith}
+use Rattle.std.proofs.Common.{◌∙◌, arith}
 use Rattle.script.proofs.Steps.{line_skip, line_keep, line_stop}
 use Rattle.script.proofs.parse.Rest.next_line.Goals as goal
 
