@@ -8,17 +8,17 @@ joined one two three mid new p q a b c d = c ∙ ap (λ z. z ++ q) (a ∙ ap (λ
 pub returns : goal.returns
 returns c =
     let trace = c.args.trace.now in
-    let x = c.in-ok-text.ensures in
-    let y = c.in-ok-second.ensures in
-    let z = c.in-ok-third.ensures in
+    let x = c.in_ok-text.ensures in
+    let y = c.in_ok-second.ensures in
+    let z = c.in_ok-third.ensures in
     record {
-      first = string_bytes c.in-ok-text.text;
-      second = string_bytes c.in-ok-second.second;
-      third = string_bytes c.in-ok-third.third;
-      whole = joined _ _ _ _ _ _ _ c.in-ok-push-str.ensures.bytes c.as-str.ensures.value c.in-ok-push-str-2.ensures.bytes c.as-str-2.ensures.value;
+      first = string_bytes c.in_ok-text.text;
+      second = string_bytes c.in_ok-second.second;
+      third = string_bytes c.in_ok-third.third;
+      whole = joined _ _ _ _ _ _ _ c.in_ok-push_str.ensures.bytes c.as_str.ensures.value c.in_ok-push_str-2.ensures.bytes c.as_str-2.ensures.value;
       radix = x;
       hashed = y;
       pile = z;
-      boards_agree = replays_agree trace.frames (vec_items trace.entries) (codes "x86-64") (codes "powerpc") (string_bytes c.in-ok-text.text) (string_bytes c.in-ok-second.second) x y;
-      pile_agrees = replays_agree trace.frames (vec_items trace.entries) (codes "x86-64") (codes "pile") (string_bytes c.in-ok-text.text) (string_bytes c.in-ok-third.third) x z;
+      boards_agree = replays_agree trace.frames (vec_items trace.entries) (codes "x86-64") (codes "powerpc") (string_bytes c.in_ok-text.text) (string_bytes c.in_ok-second.second) x y;
+      pile_agrees = replays_agree trace.frames (vec_items trace.entries) (codes "x86-64") (codes "pile") (string_bytes c.in_ok-text.text) (string_bytes c.in_ok-third.third) x z;
     }
