@@ -22,8 +22,8 @@ fn rate(calls: u32, nanos: u128) -> u128
 
 // Reads and writes in turn, all of them hits.
 fn access_rate<P: Pmap>(rt: &HostRuntime, pmap: &mut P, calls: u32) -> anyhow::Result<u128>
-    requires { kept pmap.old }
-    ensures { kept pmap.new }
+    requires { P.kept pmap.old }
+    ensures { P.kept pmap.new }
 {
     let start = Instant::now(rt)?;
     for call in 0..calls {
@@ -36,8 +36,8 @@ fn access_rate<P: Pmap>(rt: &HostRuntime, pmap: &mut P, calls: u32) -> anyhow::R
 
 // Enters of one page after the other, each frame in turn.
 fn enter_rate<P: Pmap>(rt: &HostRuntime, pmap: &mut P, calls: u32) -> anyhow::Result<u128>
-    requires { kept pmap.old }
-    ensures { kept pmap.new }
+    requires { P.kept pmap.old }
+    ensures { P.kept pmap.new }
 {
     let start = Instant::now(rt)?;
     for call in 0..calls {
@@ -50,8 +50,8 @@ fn enter_rate<P: Pmap>(rt: &HostRuntime, pmap: &mut P, calls: u32) -> anyhow::Re
 
 // Drops of each frame in turn.
 fn drop_rate<P: Pmap>(rt: &HostRuntime, pmap: &mut P, calls: u32) -> anyhow::Result<u128>
-    requires { kept pmap.old }
-    ensures { kept pmap.new }
+    requires { P.kept pmap.old }
+    ensures { P.kept pmap.new }
 {
     let start = Instant::now(rt)?;
     for call in 0..calls {
@@ -64,7 +64,7 @@ fn drop_rate<P: Pmap>(rt: &HostRuntime, pmap: &mut P, calls: u32) -> anyhow::Res
 
 // Prints the three figures of a pmap.
 pub fn show<P: Pmap>(rt: &HostRuntime, name: &str, pmap: &mut P, calls: u32) -> anyhow::Result<()>
-    requires { kept pmap.old }
+    requires { P.kept pmap.old }
 {
     enter_rate(rt, pmap, ROUND)?;
     let access = access_rate(rt, pmap, calls)?;

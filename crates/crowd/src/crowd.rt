@@ -14,10 +14,10 @@ fn enter_other<P: Pmap>(
     other: u32,
     frame: u16,
 ) -> Result<bool, PmapRefusal>
-    requires { kept pmap.old }
-    ensures kept { kept pmap.new }
-    ensures marks { (view pmap.new).modified ≡ (view pmap.old).modified }
-    ensures gone { IfOk result (λ gone. Gone (view pmap.new) space page gone) }
+    requires { P.kept pmap.old }
+    ensures kept { P.kept pmap.new }
+    ensures marks { (P.view pmap.new).modified ≡ (P.view pmap.old).modified }
+    ensures gone { IfOk result (λ gone. Gone (P.view pmap.new) space page gone) }
 {
     pmap.enter(space, other, frame, 1, false)?;
     let held = pmap.find(space, page)?;
@@ -32,9 +32,9 @@ fn drive_out<P: Pmap>(
     others: &[u32],
     frame: u16,
 ) -> Result<usize, PmapRefusal>
-    requires { kept pmap.old }
-    ensures kept { kept pmap.new }
-    ensures marks { (view pmap.new).modified ≡ (view pmap.old).modified }
+    requires { P.kept pmap.old }
+    ensures kept { P.kept pmap.new }
+    ensures marks { (P.view pmap.new).modified ≡ (P.view pmap.old).modified }
     ensures count { IfOk result (λ n. n ≤ length others.now) }
 {
     for i in 0..others.len() {
@@ -54,10 +54,10 @@ pub fn crowd<P: Pmap>(
     frame: u16,
     others: &[u32],
 ) -> Result<Outcome, PmapRefusal>
-    requires { kept pmap.old }
-    ensures kept { kept pmap.new }
-    ensures marks { (view pmap.new).modified ≡ (view pmap.old).modified }
-    ensures tells { Crowds (view pmap.old) (view pmap.new) space page frame (length others.now) result }
+    requires { P.kept pmap.old }
+    ensures kept { P.kept pmap.new }
+    ensures marks { (P.view pmap.new).modified ≡ (P.view pmap.old).modified }
+    ensures tells { Crowds (P.view pmap.old) (P.view pmap.new) space page frame (length others.now) result }
 {
     let others = drive_out(pmap, space, page, others, frame ^ 1)?;
     let held = pmap.find(space, page)?;

@@ -1,5 +1,5 @@
 -- The flags that a layer keeps beside a pmap, one for each frame. Assumes nothing.
-use Rattle.std.specs.Prelude.{◌≡◌, ℕ, ◌<◌, Bool, true, false, List, set, Ok, Err, Result, slice_index_or, slice_set}
+use Rattle.std.specs.Prelude.{◌≡◌, ℕ, ◌<◌, Bool, true, false, List, Ok, Err, Result, slice_index_or, slice_set}
 use Rattle.refusal.specs.declared.pmap.PmapRefusal.{PmapRefusal}
 use Rattle.pmap.specs.declared.access.Access.{Access}
 use Rattle.pmap.specs.declared.access.Access.TheVariants.{Hit, Miss}
