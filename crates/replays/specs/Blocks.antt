@@ -2,7 +2,6 @@
 use Rattle.std.specs.Prelude.{ℕ, zero, suc, ◌+◌, ◌/◌, ◌%◌, Bool, true, false, List, [], ◌∷◌, ◌++◌, drop, Ok, Err, codes, decimal, Result}
 use Rattle.refusal.specs.declared.code.Code.{Code}
 use Rattle.refusal.specs.declared.file.FileRefusal.{FileRefusal}
-use Rattle.refusal.specs.declared.memory.MemoryRefusal.{MemoryRefusal}
 use Rattle.refusal.specs.Codes.{file_code, memory_code}
 use Rattle.refusal.specs.Letters.{letter}
 use Rattle.trace.specs.declared.record.Record.{Record}

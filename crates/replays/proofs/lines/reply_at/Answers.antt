@@ -1,4 +1,4 @@
-use Rattle.std.proofs.Common.{◌≡◌, sym}
+use Rattle.std.proofs.Common.{sym}
 use Rattle.std.proofs.lemmas.List.{at_drop_more, at_drop_all}
 use Rattle.replays.specs.Blocks.{next_reply}
 use Rattle.replays.proofs.lines.reply_at.Goals as goal
