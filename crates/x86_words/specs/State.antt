@@ -4,7 +4,7 @@
 -- 8,192 words make 16 tables of 512: table 0 is the PML4, 1 the PDPT, 2 + s the page directory of space s, 6 to 15 are
 -- leaves. Beside the table stand a modified mark for each of the 256 frames, and the counter: the leaf to look at first
 -- when one has to be taken.
-use Rattle.std.specs.Prelude.{ℕ, zero, suc, ◌+◌, ◌-◌, ◌*◌, ◌/◌, ◌%◌, Bool, false, cond, not, ◌&&◌, ◌||◌, List, map, set, replicate, Some, None, Option, ◌==◌, nat_le, nat_lt, slice_index, slice_index_or, slice_set}
+use Rattle.std.specs.Prelude.{ℕ, zero, suc, ◌+◌, ◌-◌, ◌*◌, ◌/◌, ◌%◌, Bool, false, cond, not, ◌&&◌, ◌||◌, List, map, replicate, Some, None, Option, ◌==◌, nat_le, nat_lt, slice_index, slice_index_or, slice_set}
 use Rattle.std.specs.List.{range_with_len}
 use Rattle.pmap.specs.declared.access.Access.{Access}
 use Rattle.pmap.specs.declared.access.Access.TheVariants.{Hit, Miss}

@@ -6,6 +6,6 @@ pub returns-then-page : goal.returns-then-page
 unfolding table_of
 returns-then-page c = search rules
 
-pub returns-else-is-present : goal.returns-else-is-present
+pub returns-else-is_present : goal.returns-else-is_present
 unfolding table_of
-returns-else-is-present c = search rules
+returns-else-is_present c = search rules

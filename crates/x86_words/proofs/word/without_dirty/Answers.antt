@@ -3,8 +3,8 @@ use Rattle.x86_words.proofs.Bits.{and_bit}
 use Rattle.x86_words.specs.Words.{cleaned}
 use Rattle.x86_words.proofs.word.without_dirty.Goals as goal
 
-pub overflow-sub-result : goal.overflow-sub-result
-overflow-sub-result c = omega (arith, and_bit c.args.word 6)
+pub overflow_sub-result : goal.overflow_sub-result
+overflow_sub-result c = omega (arith, and_bit c.args.word 6)
 
 pub returns : goal.returns
 unfolding cleaned

@@ -3,8 +3,8 @@ use Rattle.x86_words.proofs.Bits.{and_bit}
 use Rattle.x86_words.specs.Words.{read_only}
 use Rattle.x86_words.proofs.word.without_writable.Goals as goal
 
-pub overflow-sub-result : goal.overflow-sub-result
-overflow-sub-result c = omega (arith, and_bit c.args.word 1)
+pub overflow_sub-result : goal.overflow_sub-result
+overflow_sub-result c = omega (arith, and_bit c.args.word 1)
 
 pub returns : goal.returns
 unfolding read_only

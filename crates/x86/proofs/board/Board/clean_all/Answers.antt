@@ -17,8 +17,8 @@ loop-at-preserved c =
     let u = state c.loop-at.self in
     let i = c.loop-at.at in
     let f = c.args.wanted in
-    rewriting_step st u (state c.clean-at.new.self) (unmarked_word st f) i (cleaned (word_at u i)) (maps (word_at u i) f) c.loop-at.invariant (omega arith)
-    (unmarked_here st f i (word_at u i) (omega arith) (c.loop-at.invariant.rest i (omega arith))) c.clean-at.ensures
+    rewriting_step st u (state c.clean_at.new.self) (unmarked_word st f) i (cleaned (word_at u i)) (maps (word_at u i) f) c.loop-at.invariant (omega arith)
+    (unmarked_here st f i (word_at u i) (omega arith) (c.loop-at.invariant.rest i (omega arith))) c.clean_at.ensures
 
 pub returns : goal.returns
 unfolding bits_off

@@ -8,7 +8,7 @@ loop-frame-init c = unmarking_none (state c.args.self.now)
 
 pub loop-frame-preserved : goal.loop-frame-preserved
 loop-frame-preserved c =
-    unmarking_more (state c.args.self.now) (state c.loop-frame.self) (state c.clear-mark.new.self) c.loop-frame.frame c.loop-frame.invariant (omega arith) c.clear-mark.ensures
+    unmarking_more (state c.args.self.now) (state c.loop-frame.self) (state c.clear_mark.new.self) c.loop-frame.frame c.loop-frame.invariant (omega arith) c.clear_mark.ensures
 
 pub returns : goal.returns
 returns c =

@@ -6,7 +6,7 @@ use Rattle.x86_words.specs.State.{wired_other, wired_beside}
 use Rattle.x86.specs.Reads.{state}
 use Rattle.x86_words.proofs.Sets.{tally_zero}
 use Rattle.x86.proofs.board.Board.count_wired.Goals as goal
-use Rattle.x86.proofs.board.Board.count_wired.Goals.{then-wired-other, else-wired-other}
+use Rattle.x86.proofs.board.Board.count_wired.Goals.{then-wired_other, else-wired_other}
 
 pub loop-at-init : goal.loop-at-init
 loop-at-init c =
@@ -18,9 +18,9 @@ loop-at-preserved c =
     let test = wired_beside st c.args.own in
     let i = c.loop-at.at in
     let here : test i ≡ wired_other st c.args.own i = ap (λ b. b && wired_other st c.args.own i) (le-leb 3072 i (omega arith)) in
-    elim c.if-wired-other.branch [
-      | then-wired-other w ↦ (w.count-is ∙ ap (λ n. n + 1) c.loop-at.invariant.0 ∙ sym (tally_hit test i (here ∙ sym w.if-wired-other.ensures)), omega (arith, w.count-is))
-      | else-wired-other w ↦ (w.count-is ∙ c.loop-at.invariant.0 ∙ sym (tally_miss test i (here ∙ sym w.if-wired-other.ensures)), omega (arith, w.count-is))
+    elim c.if-wired_other.branch [
+      | then-wired_other w ↦ (w.count-is ∙ ap (λ n. n + 1) c.loop-at.invariant.0 ∙ sym (tally_hit test i (here ∙ sym w.if-wired_other.ensures)), omega (arith, w.count-is))
+      | else-wired_other w ↦ (w.count-is ∙ c.loop-at.invariant.0 ∙ sym (tally_miss test i (here ∙ sym w.if-wired_other.ensures)), omega (arith, w.count-is))
     ]
 
 pub returns : goal.returns

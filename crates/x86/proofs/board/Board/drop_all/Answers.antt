@@ -19,8 +19,8 @@ loop-at-preserved c =
     let i = c.loop-at.at in
     let f = c.args.wanted in
     let here = emptying_here st u (mapping st f) i c.loop-at.invariant in
-    emptying_step st u (state c.drop-at.new.self) (mapping st f) i (maps (word_at u i) f) c.loop-at.invariant (omega arith) (omega arith) (omega arith)
-    (mapping_here st f i (word_at u i) (omega arith) here) c.drop-at.ensures
+    emptying_step st u (state c.drop_at.new.self) (mapping st f) i (maps (word_at u i) f) c.loop-at.invariant (omega arith) (omega arith) (omega arith)
+    (mapping_here st f i (word_at u i) (omega arith) here) c.drop_at.ensures
 
 pub returns : goal.returns
 returns c =

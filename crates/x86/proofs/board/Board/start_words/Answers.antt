@@ -9,8 +9,8 @@ loop-at-init c = rewriting_none (state c.args.self.now) start_word 0 (λ k h. ab
 
 pub loop-at-preserved : goal.loop-at-preserved
 loop-at-preserved c =
-    rewriting_step (state c.args.self.now) (state c.loop-at.self) (state c.put-word.new.self) start_word c.loop-at.at c.start-word.result true c.loop-at.invariant (omega arith)
-    (sym c.start-word.ensures) c.put-word.ensures
+    rewriting_step (state c.args.self.now) (state c.loop-at.self) (state c.put_word.new.self) start_word c.loop-at.at c.start_word.result true c.loop-at.invariant (omega arith)
+    (sym c.start_word.ensures) c.put_word.ensures
 
 pub returns : goal.returns
 unfolding wiped

@@ -17,8 +17,8 @@ loop-at-preserved c =
     let u = state c.loop-at.self in
     let i = c.loop-at.at in
     let t = c.args.leaf in
-    rewriting_step st u (state c.unlink-at.new.self) (unlinked_word st t) i 0 (points_to (word_at u i) t) c.loop-at.invariant (omega arith)
-    (unlinked_here st t i (word_at u i) (omega arith) (omega arith) (c.loop-at.invariant.rest i (omega arith))) c.unlink-at.ensures
+    rewriting_step st u (state c.unlink_at.new.self) (unlinked_word st t) i 0 (points_to (word_at u i) t) c.loop-at.invariant (omega arith)
+    (unlinked_here st t i (word_at u i) (omega arith) (omega arith) (c.loop-at.invariant.rest i (omega arith))) c.unlink_at.ensures
 
 pub returns : goal.returns
 unfolding unlinked

@@ -8,6 +8,6 @@ use Rattle.x86_pmap.proofs.meaning.X86.look_up.Goals as goal
 pub returns : goal.returns
 returns c =
     let st = state c.args.self.now.board in
-    let e : c.look-up.result ≡ lookup st.words (linear c.args.space c.args.page) =
-    c.look-up.ensures ∙ ap (λ ws. lookup ws c.linear-page.result) c.words.ensures ∙ ap (lookup st.words) c.linear-page.ensures in
+    let e : c.look_up.result ≡ lookup st.words (linear c.args.space c.args.page) =
+    c.look_up.ensures ∙ ap (λ ws. lookup ws c.linear_page.result) c.words.ensures ∙ ap (lookup st.words) c.linear_page.ensures in
     record { words = e; sees = λ fits. e ∙ hardware_sees st c.requires c.args.space c.args.page fits }

@@ -4,6 +4,6 @@ use Rattle.x86_pmap.proofs.meaning.X86.new.Goals as goal
 
 pub returns : goal.returns
 returns c =
-    let made = c.in-ok-board.ensures in
-    let m = clears (state c.in-ok-board.board) made.0 in
+    let made = c.in_ok-board.ensures in
+    let m = clears (state c.in_ok-board.board) made.0 in
     (m.0, m.1, made.1)

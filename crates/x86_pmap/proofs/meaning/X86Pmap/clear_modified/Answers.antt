@@ -4,5 +4,5 @@ use Rattle.x86_pmap.proofs.meaning.X86Pmap.clear_modified.Goals as goal
 
 pub returns : goal.returns
 returns c =
-    let m = unmarks (state c.args.self.now.board) (state c.clear-modified.new.self) c.requires c.args.frame tt c.clear-modified.result c.clear-modified.ensures.answer c.clear-modified.ensures.after in
+    let m = unmarks (state c.args.self.now.board) (state c.clear_modified.new.self) c.requires c.args.frame tt c.clear_modified.result c.clear_modified.ensures.answer c.clear_modified.ensures.after in
     record { meaning = m.0; kept = m.1 }

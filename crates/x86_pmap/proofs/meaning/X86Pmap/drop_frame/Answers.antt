@@ -4,5 +4,5 @@ use Rattle.x86_pmap.proofs.meaning.X86Pmap.drop_frame.Goals as goal
 
 pub returns : goal.returns
 returns c =
-    let m = drops (state c.args.self.now.board) (state c.drop-frame.new.self) c.requires c.args.frame tt c.drop-frame.result c.drop-frame.ensures.answer c.drop-frame.ensures.after in
+    let m = drops (state c.args.self.now.board) (state c.drop_frame.new.self) c.requires c.args.frame tt c.drop_frame.result c.drop_frame.ensures.answer c.drop_frame.ensures.after in
     record { meaning = m.0; kept = m.1 }
