@@ -13,7 +13,7 @@ use Rattle.slots.specs.Slots.{Entry, mapping_of}
 use Rattle.slots.specs.Changes.{Rewritten}
 use Rattle.slots.proofs.Shown.{none_some, shown_none, emptied_drops, cleaned_unmarks, rewritten_here, rewritten_others, rewritten_marks, rewritten_same_marks, added}
 use Rattle.powerpc_words.specs.Fields.{frame_of, protection_of, changed, touched, lowered}
-use Rattle.powerpc_words.specs.State.{State, first, second, wired_at, start}
+use Rattle.powerpc_words.specs.State.{State, second, wired_at, start}
 use Rattle.powerpc_words.specs.Search.{lookup}
 use Rattle.powerpc_words.specs.Changes.{maps, reworded, removed, entered, restricted, unwired, unwired_at, accessed, dropped, unmarked, modified_in}
 use Rattle.powerpc_words.specs.Answers.{holds, crowded, or_range, enter_answer, enter_leaves, remove_leaves, lower_leaves, unwire_leaves, drop_leaves, access_answer, access_leaves, find_answer, modified_answer, unmark_leaves}

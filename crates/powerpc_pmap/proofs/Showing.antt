@@ -9,7 +9,6 @@ use Rattle.powerpc_words.specs.Fields.{frame_of, changed}
 use Rattle.powerpc_words.specs.State.{State, first, second}
 use Rattle.powerpc_words.specs.Search.{lookup}
 use Rattle.powerpc_words.specs.Changes.{maps, dirty_at, any_dirty, modified_in}
-use Rattle.powerpc_words.specs.Answers.{holds}
 use Rattle.powerpc_words.proofs.CallLaws.{holds_none, holds_some}
 use Rattle.powerpc_words.proofs.SweepLaws.{any_dirty_decides}
 use Rattle.powerpc_pmap.specs.View.{view_of, held_at}

@@ -12,5 +12,5 @@ returns-in-Some c =
 pub returns-in-None : goal.returns-in-None
 returns-in-None c =
     let missed : slot_in c.args.words.now (group c.args.space c.args.page false) (entry_word c.args.space c.args.page false) ≡ None = cc c.in-None.ensures.value in
-    let there : c.slot-in-in-None.result ≡ slot_in c.args.words.now (group c.args.space c.args.page true) (entry_word c.args.space c.args.page true) = cc in
-    record { value = there ∙ sym (lookup_secondary c.args.words.now c.args.space c.args.page missed); bound = c.slot-in-in-None.ensures.bound }
+    let there : c.slot_in-in-None.result ≡ slot_in c.args.words.now (group c.args.space c.args.page true) (entry_word c.args.space c.args.page true) = cc in
+    record { value = there ∙ sym (lookup_secondary c.args.words.now c.args.space c.args.page missed); bound = c.slot_in-in-None.ensures.bound }

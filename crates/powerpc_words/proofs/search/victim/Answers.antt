@@ -12,5 +12,5 @@ returns-in-Some c =
 pub returns-in-None : goal.returns-in-None
 returns-in-None c =
     let missed : unwired_in c.args.wired.now (group c.args.space c.args.page false) c.args.next ≡ None = cc c.in-None.ensures.value in
-    let there : c.unwired-in-in-None.result ≡ unwired_in c.args.wired.now (group c.args.space c.args.page true) c.args.next = cc in
-    record { value = there ∙ sym (victim_secondary c.args.wired.now c.args.next c.args.space c.args.page missed); bound = c.unwired-in-in-None.ensures.bound }
+    let there : c.unwired_in-in-None.result ≡ unwired_in c.args.wired.now (group c.args.space c.args.page true) c.args.next = cc in
+    record { value = there ∙ sym (victim_secondary c.args.wired.now c.args.next c.args.space c.args.page missed); bound = c.unwired_in-in-None.ensures.bound }

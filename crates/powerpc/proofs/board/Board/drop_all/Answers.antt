@@ -8,7 +8,7 @@ loop-slot-init c = dropping_none (state c.args.self.now) c.args.frame
 
 pub loop-slot-preserved : goal.loop-slot-preserved
 loop-slot-preserved c =
-    subst (Dropping (state c.args.self.now) c.args.frame (c.loop-slot.slot + 1)) (sym c.drop-at.ensures)
+    subst (Dropping (state c.args.self.now) c.args.frame (c.loop-slot.slot + 1)) (sym c.drop_at.ensures)
     (dropping_more (state c.args.self.now) c.args.frame c.loop-slot.slot (state c.loop-slot.self) c.loop-slot.invariant (omega arith) (omega arith) c.loop-slot-test.true)
 
 pub returns : goal.returns

@@ -6,9 +6,9 @@ pub returns-in-Some : goal.returns-in-Some
 unfolding placed
 returns-in-Some c = search rules
 
-pub returns-in-default-victim : goal.returns-in-default-victim
+pub returns-in_default-victim : goal.returns-in_default-victim
 unfolding placed
-returns-in-default-victim c = search rules
+returns-in_default-victim c = search rules
 
 pub returns : goal.returns
 unfolding placed

@@ -3,9 +3,9 @@ use Rattle.powerpc_words.specs.Changes.{accessed}
 use Rattle.powerpc_words.specs.Answers.{holds}
 use Rattle.powerpc.proofs.board.Board.touch.Goals as goal
 
-pub returns-in-default : goal.returns-in-default
+pub returns-in_default : goal.returns-in_default
 unfolding accessed holds
-returns-in-default c = search rules
+returns-in_default c = search rules
 
 pub returns-then-not-allows : goal.returns-then-not-allows
 unfolding accessed holds

@@ -8,7 +8,7 @@ loop-slot-init c = cleaning_none (state c.args.self.now) c.args.frame
 
 pub loop-slot-preserved : goal.loop-slot-preserved
 loop-slot-preserved c =
-    subst (Cleaning (state c.args.self.now) c.args.frame (c.loop-slot.slot + 1)) (sym c.clean-at.ensures)
+    subst (Cleaning (state c.args.self.now) c.args.frame (c.loop-slot.slot + 1)) (sym c.clean_at.ensures)
     (cleaning_more (state c.args.self.now) c.args.frame c.loop-slot.slot (state c.loop-slot.self) c.loop-slot.invariant (omega arith) c.loop-slot-test.true)
 
 pub returns : goal.returns

@@ -5,5 +5,5 @@ use Rattle.powerpc_pmap.proofs.hashed.Hashed.new.Goals as goal
 
 pub returns : goal.returns
 returns c =
-    let made = c.in-ok-board.ensures in
+    let made = c.in_ok-board.ensures in
     (made.0, made.1, subst Kept (sym made.1) start_kept)

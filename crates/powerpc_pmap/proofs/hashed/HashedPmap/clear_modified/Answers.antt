@@ -4,5 +4,5 @@ use Rattle.powerpc_pmap.proofs.hashed.HashedPmap.clear_modified.Goals as goal
 
 pub returns : goal.returns
 returns c =
-    let done = unmark_means (state c.args.self.now.board) (state c.clear-modified.new.self) c.clear-modified.result c.args.frame c.requires c.clear-modified.ensures.answer c.clear-modified.ensures.leaves in
+    let done = unmark_means (state c.args.self.now.board) (state c.clear_modified.new.self) c.clear_modified.result c.args.frame c.requires c.clear_modified.ensures.answer c.clear_modified.ensures.leaves in
     record { meaning = done.0; kept = done.1 }
