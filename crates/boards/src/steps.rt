@@ -13,8 +13,8 @@ pub fn touch<P: Pmap>(
     request: Request,
     write: bool,
 ) -> Result<(), Stop>
-    requires { kept pmap.old }
-    ensures { kept pmap.new }
+    requires { P.kept pmap.old }
+    ensures { P.kept pmap.new }
 {
     let name = if write { "write" } else { "read" };
     match pmap.access(request.space, request.page, write)? {
