@@ -12,7 +12,7 @@ use rules::answer::{Reading, Report};
 
 impl<P: Pmap> Memory<P> {
     // The word of the place's object page.
-    pub(crate) fn read_page(&mut self, space: u8, page: u32) -> Result<Reading, MemoryRefusal>
+    pub fn read_page(&mut self, space: u8, page: u32) -> Result<Reading, MemoryRefusal>
         requires kept { P.kept self.old.pmap }
         requires ready { Ready (P.view self.old.pmap) (memory_state (P.view self.old.pmap) self.old.tables self.old.counts) }
         ensures serves { Serves (P.view self.old.pmap) (P.view self.new.pmap) (memory_state (P.view self.old.pmap) self.old.tables self.old.counts) (memory_state (P.view self.new.pmap) self.new.tables self.new.counts) (ReadCall space page) (read_reply result) }
@@ -27,12 +27,7 @@ impl<P: Pmap> Memory<P> {
     }
 
     // Writes a word to the place's object page.
-    pub(crate) fn write_page(
-        &mut self,
-        space: u8,
-        page: u32,
-        word: u32,
-    ) -> Result<Report, MemoryRefusal>
+    pub fn write_page(&mut self, space: u8, page: u32, word: u32) -> Result<Report, MemoryRefusal>
         requires kept { P.kept self.old.pmap }
         requires ready { Ready (P.view self.old.pmap) (memory_state (P.view self.old.pmap) self.old.tables self.old.counts) }
         ensures serves { Serves (P.view self.old.pmap) (P.view self.new.pmap) (memory_state (P.view self.old.pmap) self.old.tables self.old.counts) (memory_state (P.view self.new.pmap) self.new.tables self.new.counts) (WriteCall space page word) (wrote_reply result) }

@@ -47,7 +47,7 @@ impl<P: Pmap> Memory<P> {
 
     // Has object page x resident: where it is not, it is loaded into an unused frame, the lowest first, else into that of the
     // page loaded longest ago whose frame is not wired.
-    pub(crate) fn bring(&mut self, x: usize) -> Result<Brought, MemoryRefusal>
+    pub fn bring(&mut self, x: usize) -> Result<Brought, MemoryRefusal>
         requires { (P.kept self.old.pmap) × ((Good (memory_state (P.view self.old.pmap) self.old.tables self.old.counts)) × (x < 2048)) }
         ensures brings { MatchResult result (λ b. Brings (P.view self.old.pmap) (P.view self.new.pmap) (memory_state (P.view self.old.pmap) self.old.tables self.old.counts) (memory_state (P.view self.new.pmap) self.new.tables self.new.counts) x b.frame b.loaded b.evicted) (λ e. NoRoom (P.view self.old.pmap) (P.view self.new.pmap) (memory_state (P.view self.old.pmap) self.old.tables self.old.counts) (memory_state (P.view self.new.pmap) self.new.tables self.new.counts) x e) }
         ensures kept { P.kept self.new.pmap }

@@ -55,12 +55,7 @@ impl<P: Pmap> Memory<P> {
     }
 
     // The frame of the place's object page: a hit, or a fault.
-    pub(crate) fn reach(
-        &mut self,
-        space: u8,
-        page: u32,
-        write: bool,
-    ) -> Result<Reached, MemoryRefusal>
+    pub fn reach(&mut self, space: u8, page: u32, write: bool) -> Result<Reached, MemoryRefusal>
         requires kept { P.kept self.old.pmap }
         requires ready { Ready (P.view self.old.pmap) (memory_state (P.view self.old.pmap) self.old.tables self.old.counts) }
         ensures reaches { MatchResult result (λ x. (access_refusal (memory_state (P.view self.old.pmap) self.old.tables self.old.counts) space page write ≡ None) × Reaches (P.view self.old.pmap) (P.view self.new.pmap) (memory_state (P.view self.old.pmap) self.old.tables self.old.counts) (memory_state (P.view self.new.pmap) self.new.tables self.new.counts) space page write x.frame x.report) (λ e. (access_refusal (memory_state (P.view self.old.pmap) self.old.tables self.old.counts) space page write ≡ Some e) × Unmoved (P.view self.old.pmap) (P.view self.new.pmap) (memory_state (P.view self.old.pmap) self.old.tables self.old.counts) (memory_state (P.view self.new.pmap) self.new.tables self.new.counts)) }

@@ -18,7 +18,7 @@ const WIRED_PLACES: usize = 8;
 
 impl<P: Pmap> Memory<P> {
     // Brings the place's object page in and enters a wired mapping of it.
-    pub(crate) fn wire_place(&mut self, space: u8, page: u32) -> Result<Wiring, MemoryRefusal>
+    pub fn wire_place(&mut self, space: u8, page: u32) -> Result<Wiring, MemoryRefusal>
         requires kept { P.kept self.old.pmap }
         requires ready { Ready (P.view self.old.pmap) (memory_state (P.view self.old.pmap) self.old.tables self.old.counts) }
         ensures serves { Serves (P.view self.old.pmap) (P.view self.new.pmap) (memory_state (P.view self.old.pmap) self.old.tables self.old.counts) (memory_state (P.view self.new.pmap) self.new.tables self.new.counts) (WireCall space page) (wired_reply result) }
