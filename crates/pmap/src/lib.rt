@@ -4,5 +4,7 @@
 #![tactic(auto)]
 
 pub mod access;
+pub mod frame;
 pub mod interface;
+pub mod place;
 pub mod range;

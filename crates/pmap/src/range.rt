@@ -9,6 +9,9 @@ pub const PAGES: u32 = 262_144;
 
 pub const FRAMES: u16 = 256;
 
+// How many places may be wired at once.
+pub const WIRED_PLACES: usize = 8;
+
 // Whether a space and a page name a place.
 pub fn fits_place(space: u8, page: u32) -> bool
     ensures { result ≡ fits_place space page }

@@ -1,8 +1,6 @@
 -- The number and the layer of every refusal. Assumes nothing.
 -- Layer File gives 1 to 4, layer Memory 5 to 14, layer Pmap 15 and 16.
-use Rattle.std.specs.Prelude.{ℕ}
 use Rattle.refusal.specs.declared.code.Code.{Code}
-use Rattle.refusal.specs.declared.code.Layer.{Layer}
 use Rattle.refusal.specs.declared.code.Layer.TheVariants.{File, Memory, Pmap}
 use Rattle.refusal.specs.declared.file.FileRefusal.{FileRefusal}
 use Rattle.refusal.specs.declared.file.FileRefusal.TheVariants.{Size, Cut, Operation, Field}

@@ -1,7 +1,7 @@
 // What every refusal is known by: its number and the layer that gives it.
 ghost use Rattle.std.specs.Prelude.{◌≡◌, ℕ, List, Some, codes, Option as Maybe};
 ghost use Rattle.refusal.specs.declared.code.Code.{Code as TheCode};
-ghost use Rattle.refusal.specs.Letters.{letter};
+ghost use Rattle.refusal.specs.Letters.{letter, code_words};
 
 use std::fmt;
 
@@ -36,5 +36,15 @@ impl fmt::Display for Layer {
             Layer::Memory => "M",
             Layer::Pmap => "P",
         })
+    }
+}
+
+// The number and the layer's letter, as listings print them.
+impl fmt::Display for Code {
+    ghost output = { λ code. Some (code_words code) };
+
+    fn fmt<W: fmt::Write>(&self, f: &mut fmt::Formatter<W>) -> fmt::Result {
+        let Code { number, layer } = *self;
+        write!(f, "{number} {layer}")
     }
 }

@@ -5,5 +5,6 @@
 
 pub mod code;
 pub mod file;
+pub mod making;
 pub mod memory;
 pub mod pmap;
