@@ -4,6 +4,7 @@ ghost use Rattle.pmap.specs.Meaning.{View, Cleared, Enters, Removes, Lowers, Dro
 use crate::access::Access;
 use refusal::pmap::PmapRefusal;
 
+// The calls take plain numbers, since they refuse those out of range by number; `find` answers a tuple, as the project asks.
 pub trait Pmap {
     // what is held, and which frames are modified
     ghost view: { Self → View };
