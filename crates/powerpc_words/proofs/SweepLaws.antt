@@ -1,7 +1,7 @@
 -- Going through all slots: what the steps leave is the list by index that the rules name.
 use Rattle.std.proofs.Common.{◌≡◌, ℕ, ◌+◌, ◌*◌, ◌/◌, ◌%◌, ◌<◌, ◌≤◌, Bool, true, false, cond, ◌&&◌, ◌||◌, eqb, ltb, List, map, length, get_or, set, Decides, sym, refl, ap, ◌∙◌, subst, ⊎_elim, add-one, arith}
 use Rattle.std.specs.List.{range_with_len}
-use Rattle.std.proofs.lemmas.Bool.{eq-eqb, ne_eqb, cond-true, cond-false, cond_both, cases_eq, and_parts, and_left, eqb-true, lt-ltb, le-ltb, or_left, or_right, or_from}
+use Rattle.std.proofs.lemmas.Bool.{eq-eqb, ne_eqb, cond-true, cond-false, cond_both, cases_eq, and_parts, eqb-true, or_left, or_right, or_from}
 use Rattle.std.proofs.lemmas.Bool.Decides.{Decides-below_or}
 use Rattle.std.proofs.lemmas.List.FromFn.{fill_by_all}
 use Rattle.std.proofs.lemmas.List.{get_or-set_same, get_or-set_other, length-set, set-get_or, set-set}
@@ -62,24 +62,6 @@ maps_same ws vs f k a b = rw (a, b)
 pub maps_frame : (words : List ℕ) (f k : ℕ) → maps words f k ≡ true → frame_of (get_or words (2 * k + 1) 0) ≡ f
 unfolding maps
 maps_frame words f k e = eqb-true _ f (and_parts (ltb 0 (get_or words (2 * k) 0)) _ e).1
-
--- what the code reads of a slot decides the tests
-module _ (words : List ℕ) (f k : ℕ) where
-  pub maps_on : (a b : ℕ) → a ≡ get_or words (2 * k) 0 → b ≡ frame_of (get_or words (2 * k + 1) 0) → 0 < a → eqb b f ≡ maps words f k
-  unfolding maps
-  maps_on a b p q h = ap (λ t. t && eqb b f) (sym (lt-ltb 0 a h)) ∙ rw (p, q)
-
-  pub maps_off : (a : ℕ) → a ≡ get_or words (2 * k) 0 → a ≤ 0 → ltb 0 a ≡ maps words f k
-  unfolding maps
-  maps_off a p h = le-ltb 0 a h ∙ sym (and_left (ltb 0 (get_or words (2 * k) 0)) _ (ap (ltb 0) (sym p) ∙ le-ltb 0 a h))
-
-  pub dirty_on : (b : ℕ) → b ≡ get_or words (2 * k + 1) 0 → true ≡ maps words f k → changed b ≡ dirty_at words f k
-  unfolding dirty_at
-  dirty_on b q e = ap changed q ∙ ap (λ t. t && changed (get_or words (2 * k + 1) 0)) e
-
-  pub dirty_off : false ≡ maps words f k → false ≡ dirty_at words f k
-  unfolding dirty_at
-  dirty_off e = ap (λ t. t && changed (get_or words (2 * k + 1) 0)) e
 
 pub any_dirty_none : (words : List ℕ) (f : ℕ) → any_dirty words f 0 ≡ false
 unfolding any_dirty
