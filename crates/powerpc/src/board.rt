@@ -2,9 +2,9 @@
 ghost use Rattle.std.specs.Prelude.{◌≡◌, ◌<◌, vec_len};
 ghost use Rattle.powerpc_words.specs.Framed.{Framed};
 
-pub const WORDS: usize = 16_384;
+pub use powerpc_words::slot::SLOTS;
 
-pub const SLOTS: usize = 8_192;
+pub const WORDS: usize = 16_384;
 
 // The table words, a modified mark for each frame, a wired mark for each slot, and the counter of slots to forget.
 #[derive(Drop)]

@@ -1,134 +1,122 @@
 // The calls that name a place.
-ghost use Rattle.std.specs.Prelude.{◌≡◌, ◌<◌};
+ghost use Rattle.std.specs.Prelude.{◌≡◌};
 ghost use Rattle.pmap.specs.Ranges.{fits_place};
 ghost use Rattle.pmap.specs.Meaning.{answered};
-ghost use Rattle.pmap.specs.Tally.{tally};
 ghost use Rattle.powerpc.specs.Reads.{state};
 ghost use Rattle.powerpc_words.specs.Changes.{removed, placed, entered, restricted, unwired, accessed};
 ghost use Rattle.powerpc_words.specs.Answers.{holds, wired_beside, crowded as is_crowded, or_range, enter_answer, enter_leaves, remove_leaves, lower_leaves, unwire_leaves, access_answer, access_leaves, find_answer};
 
 use crate::board::{Board, SLOTS};
+use crate::mapping::Mapping;
 use pmap::access::Access;
-use pmap::range::{allows, fits_entry, fits_place};
-use powerpc_words::fields::{frame_of, lowered, protection_of, touched};
+use pmap::place::Place;
+use pmap::range::{WIRED_PLACES, allows};
+use powerpc_words::fields::protection_of;
+use powerpc_words::slot::Slot;
 use refusal::pmap::PmapRefusal;
 
 impl Board {
     // Whether a slot other than the given one is wired.
-    fn wired_beside(&self, own: Option<usize>, slot: usize) -> bool
-        requires { slot < 8192 }
+    #[tactic(auto, unfolding(powerpc_words::specs::Answers::wired_beside))]
+    fn wired_beside(&self, own: Option<Slot>, slot: Slot) -> bool
         ensures { result ≡ wired_beside (state self.now) own slot }
     {
-        match own {
-            Some(own) => self.is_wired(slot) && slot != own,
-            None => self.is_wired(slot),
-        }
-    }
-
-    // How many slots other than the given one are wired.
-    fn count_wired(&self, own: Option<usize>) -> usize
-        ensures { result ≡ tally (wired_beside (state self.now) own) 8192 }
-    {
-        let mut count = 0;
-        for slot in 0..SLOTS {
-            if self.wired_beside(own, slot) {
-                count += 1;
-            }
-        }
-        count
+        self.is_wired(slot) && own != Some(slot)
     }
 
     // Whether eight other slots than the place's own are wired.
-    fn crowded(&self, space: u8, page: u32) -> bool
-        requires { (space < 4) × (page < 262144) }
-        ensures { result ≡ is_crowded (state self.now) space page }
+    fn crowded(&self, at: Place) -> bool
+        ensures { result ≡ is_crowded (state self.now) at.space at.page }
     {
-        self.count_wired(self.lookup(space, page)) >= 8
+        let own = self.lookup(at);
+        let others = (0..SLOTS)
+            .map(Slot::new)
+            .filter(|&slot| self.wired_beside(own, slot))
+            .count();
+        others >= WIRED_PLACES
     }
 
     // Empties the slot of a place.
-    fn vacate(&mut self, space: u8, page: u32)
-        requires { (space < 4) × (page < 262144) }
-        ensures { state self.new ≡ removed (state self.old) space page }
+    #[tactic(auto, unfolding(powerpc_words::specs::Changes::removed))]
+    fn vacate(&mut self, at: Place)
+        ensures { state self.new ≡ removed (state self.old) at.space at.page }
     {
-        let Some(slot) = self.lookup(space, page) else {
-            return;
-        };
-        self.empty(slot);
+        if let Some(slot) = self.lookup(at) {
+            self.empty(slot);
+        }
     }
 
     // Puts a new entry into the first invalid slot, or else into one that is forgotten.
-    fn place(&mut self, space: u8, page: u32, frame: u16, protection: u8, wired: bool)
-        requires { (space < 4) × ((page < 262144) × (frame < 256)) }
-        ensures { state self.new ≡ placed (state self.old) space page frame protection wired }
+    #[tactic(auto, unfolding(powerpc_words::specs::Changes::placed))]
+    fn place(&mut self, at: Place, mapping: Mapping)
+        ensures { state self.new ≡ placed (state self.old) at.space at.page mapping.frame.number mapping.protection mapping.wired }
     {
-        if let Some(slot) = self.unused(space, page) {
-            self.fill(slot, space, page, frame, protection, wired);
-            return;
+        if let Some(slot) = self.unused(at) {
+            self.fill(slot, at, mapping);
+        } else if let Some(slot) = self.victim(at) {
+            self.forget(slot);
+            self.fill(slot, at, mapping);
         }
-        let Some(slot) = self.victim(space, page) else {
-            return;
-        };
-        self.forget(slot);
-        self.fill(slot, space, page, frame, protection, wired);
     }
 
     // The old entry of the place goes, the new one is placed.
-    fn replace(&mut self, space: u8, page: u32, frame: u16, protection: u8, wired: bool)
-        requires { (space < 4) × ((page < 262144) × (frame < 256)) }
-        ensures { state self.new ≡ entered (state self.old) space page frame protection wired }
+    #[tactic(auto, unfolding(powerpc_words::specs::Changes::entered))]
+    fn replace(&mut self, at: Place, mapping: Mapping)
+        ensures { state self.new ≡ entered (state self.old) at.space at.page mapping.frame.number mapping.protection mapping.wired }
     {
-        self.vacate(space, page);
-        self.place(space, page, frame, protection, wired);
+        self.vacate(at);
+        self.place(at, mapping);
     }
 
     // Sets PP to 3 in the slot of a place.
-    fn restrict(&mut self, space: u8, page: u32)
-        requires { (space < 4) × (page < 262144) }
-        ensures { state self.new ≡ restricted (state self.old) space page }
+    #[tactic(auto, unfolding(powerpc_words::specs::Changes::restricted))]
+    fn restrict(&mut self, at: Place)
+        ensures { state self.new ≡ restricted (state self.old) at.space at.page }
     {
-        let Some(slot) = self.lookup(space, page) else {
-            return;
-        };
-        self.set_second(slot, lowered(self.second(slot)));
+        if let Some(slot) = self.lookup(at) {
+            self.set_second(slot, self.second(slot).lowered());
+        }
     }
 
     // Takes off the wired mark of a place's slot.
-    fn release(&mut self, space: u8, page: u32)
-        requires { (space < 4) × (page < 262144) }
-        ensures { state self.new ≡ unwired (state self.old) space page }
+    #[tactic(auto, unfolding(powerpc_words::specs::Changes::unwired))]
+    fn release(&mut self, at: Place)
+        ensures { state self.new ≡ unwired (state self.old) at.space at.page }
     {
-        let Some(slot) = self.lookup(space, page) else {
-            return;
-        };
-        self.set_unwired(slot);
+        if let Some(slot) = self.lookup(at) {
+            self.set_unwired(slot);
+        }
     }
 
     // What the hardware does at a read or a write.
-    fn touch(&mut self, space: u8, page: u32, write: bool) -> Access
-        requires { (space < 4) × (page < 262144) }
-        ensures answer { result ≡ answered (holds (state self.old) space page) write }
-        ensures leaves { state self.new ≡ accessed (state self.old) space page write }
+    #[tactic(auto, unfolding(powerpc_words::specs::Changes::accessed, powerpc_words::specs::Answers::holds))]
+    fn touch(&mut self, at: Place, write: bool) -> Access
+        ensures answer { result ≡ answered (holds (state self.old) at.space at.page) write }
+        ensures leaves { state self.new ≡ accessed (state self.old) at.space at.page write }
     {
-        let Some(slot) = self.lookup(space, page) else {
+        let Some(slot) = self.lookup(at) else {
             return Access::Miss;
         };
         let second = self.second(slot);
-        if !allows(protection_of(second), write) {
+        if !allows(protection_of(second.word), write) {
             return Access::Miss;
         }
-        self.set_second(slot, touched(second, write));
-        Access::Hit(frame_of(second))
+        self.set_second(slot, second.touched(write));
+        Access::Hit(second.frame().number)
     }
 
     // What the hardware's lookup finds at a place.
-    fn held(&self, space: u8, page: u32) -> Option<(u16, u8, bool)>
-        requires { (space < 4) × (page < 262144) }
-        ensures { result ≡ holds (state self.now) space page }
+    #[tactic(auto, unfolding(powerpc_words::specs::Answers::holds))]
+    fn held(&self, at: Place) -> Option<(u16, u8, bool)>
+        ensures { result ≡ holds (state self.now) at.space at.page }
     {
-        let slot = self.lookup(space, page)?;
+        let slot = self.lookup(at)?;
         let second = self.second(slot);
-        Some((frame_of(second), protection_of(second), self.is_wired(slot)))
+        Some((
+            second.frame().number,
+            protection_of(second.word),
+            self.is_wired(slot),
+        ))
     }
 
     // Holds the given mapping at the place.
@@ -143,13 +131,12 @@ impl Board {
         ensures answer { result ≡ enter_answer (state self.old) space page frame protection wired }
         ensures leaves { state self.new ≡ enter_leaves (state self.old) space page frame protection wired }
     {
-        if !fits_entry(space, page, frame, protection) {
-            return Err(PmapRefusal::Range);
-        }
-        if wired && self.crowded(space, page) {
+        let at = Place::new(space, page)?;
+        let mapping = Mapping::new(frame, protection, wired)?;
+        if wired && self.crowded(at) {
             return Err(PmapRefusal::WiredFull);
         }
-        self.replace(space, page, frame, protection, wired);
+        self.replace(at, mapping);
         Ok(())
     }
 
@@ -158,10 +145,8 @@ impl Board {
         ensures answer { result ≡ or_range (fits_place space page) tt }
         ensures leaves { state self.new ≡ remove_leaves (state self.old) space page }
     {
-        if !fits_place(space, page) {
-            return Err(PmapRefusal::Range);
-        }
-        self.vacate(space, page);
+        let at = Place::new(space, page)?;
+        self.vacate(at);
         Ok(())
     }
 
@@ -170,10 +155,8 @@ impl Board {
         ensures answer { result ≡ or_range (fits_place space page) tt }
         ensures leaves { state self.new ≡ lower_leaves (state self.old) space page }
     {
-        if !fits_place(space, page) {
-            return Err(PmapRefusal::Range);
-        }
-        self.restrict(space, page);
+        let at = Place::new(space, page)?;
+        self.restrict(at);
         Ok(())
     }
 
@@ -182,10 +165,8 @@ impl Board {
         ensures answer { result ≡ or_range (fits_place space page) tt }
         ensures leaves { state self.new ≡ unwire_leaves (state self.old) space page }
     {
-        if !fits_place(space, page) {
-            return Err(PmapRefusal::Range);
-        }
-        self.release(space, page);
+        let at = Place::new(space, page)?;
+        self.release(at);
         Ok(())
     }
 
@@ -194,19 +175,15 @@ impl Board {
         ensures answer { result ≡ access_answer (state self.old) space page write }
         ensures leaves { state self.new ≡ access_leaves (state self.old) space page write }
     {
-        if !fits_place(space, page) {
-            return Err(PmapRefusal::Range);
-        }
-        Ok(self.touch(space, page, write))
+        let at = Place::new(space, page)?;
+        Ok(self.touch(at, write))
     }
 
     // The frame, the protection and the wired mark held at the place, or none.
     pub fn find(&self, space: u8, page: u32) -> Result<Option<(u16, u8, bool)>, PmapRefusal>
         ensures { result ≡ find_answer (state self.now) space page }
     {
-        if !fits_place(space, page) {
-            return Err(PmapRefusal::Range);
-        }
-        Ok(self.held(space, page))
+        let at = Place::new(space, page)?;
+        Ok(self.held(at))
     }
 }

@@ -5,7 +5,8 @@
 
 pub mod board;
 mod calls;
+mod entries;
 pub mod making;
+mod mapping;
 mod search;
-mod slots;
 mod sweeps;

@@ -1,36 +1,36 @@
 // The calls that name a frame: they go through all slots.
-ghost use Rattle.std.specs.Prelude.{◌≡◌, ◌<◌};
+ghost use Rattle.std.specs.Prelude.{◌≡◌};
 ghost use Rattle.pmap.specs.Ranges.{fits_frame};
 ghost use Rattle.powerpc.specs.Reads.{state};
 ghost use Rattle.powerpc_words.specs.Changes.{maps, dirty_at, modified_in, drop_at, clean_at, dropped, unmarked};
 ghost use Rattle.powerpc_words.specs.Answers.{or_range, drop_leaves, modified_answer, unmark_leaves};
 
 use crate::board::{Board, SLOTS};
-use pmap::range::fits_frame;
-use powerpc_words::fields::{changed, cleaned, frame_of};
+use pmap::frame::Frame;
+use powerpc_words::fields::changed;
+use powerpc_words::slot::Slot;
 use refusal::pmap::PmapRefusal;
 
 impl Board {
     // Whether a slot maps the frame.
-    fn maps_frame(&self, slot: usize, frame: u16) -> bool
-        requires { slot < 8192 }
-        ensures { result ≡ maps self.now.words.items frame slot }
+    #[tactic(auto, unfolding(powerpc_words::specs::Changes::maps))]
+    fn maps_frame(&self, slot: Slot, frame: Frame) -> bool
+        ensures { result ≡ maps self.now.words.items frame.number slot }
     {
-        self.first(slot) > 0 && frame_of(self.second(slot)) == frame
+        self.first(slot) > 0 && self.second(slot).frame() == frame
     }
 
     // Whether a slot maps the frame with its C bit on.
-    fn dirty_at(&self, slot: usize, frame: u16) -> bool
-        requires { slot < 8192 }
-        ensures { result ≡ dirty_at self.now.words.items frame slot }
+    #[tactic(auto, unfolding(powerpc_words::specs::Changes::dirty_at))]
+    fn dirty_at(&self, slot: Slot, frame: Frame) -> bool
+        ensures { result ≡ dirty_at self.now.words.items frame.number slot }
     {
-        self.maps_frame(slot, frame) && changed(self.second(slot))
+        self.maps_frame(slot, frame) && changed(self.second(slot).word)
     }
 
     // Empties a slot if it maps the frame.
-    fn drop_at(&mut self, slot: usize, frame: u16)
-        requires { slot < 8192 }
-        ensures { state self.new ≡ drop_at (state self.old) frame slot }
+    fn drop_at(&mut self, slot: Slot, frame: Frame)
+        ensures { state self.new ≡ drop_at (state self.old) frame.number slot }
     {
         if self.maps_frame(slot, frame) {
             self.empty(slot);
@@ -38,47 +38,38 @@ impl Board {
     }
 
     // Puts the C bit of a slot off if it maps the frame.
-    fn clean_at(&mut self, slot: usize, frame: u16)
-        requires { slot < 8192 }
-        ensures { state self.new ≡ clean_at (state self.old) frame slot }
+    fn clean_at(&mut self, slot: Slot, frame: Frame)
+        ensures { state self.new ≡ clean_at (state self.old) frame.number slot }
     {
         if self.maps_frame(slot, frame) {
-            self.set_second(slot, cleaned(self.second(slot)));
+            self.set_second(slot, self.second(slot).cleaned());
         }
     }
 
-    fn drop_all(&mut self, frame: u16)
-        requires { frame < 256 }
-        ensures { state self.new ≡ dropped (state self.old) frame }
+    fn drop_all(&mut self, frame: Frame)
+        ensures { state self.new ≡ dropped (state self.old) frame.number }
     {
-        for slot in 0..SLOTS {
-            self.drop_at(slot, frame);
+        for index in 0..SLOTS {
+            self.drop_at(Slot::new(index), frame);
         }
     }
 
-    fn unmark(&mut self, frame: u16)
-        requires { frame < 256 }
-        ensures { state self.new ≡ unmarked (state self.old) frame }
+    fn unmark(&mut self, frame: Frame)
+        ensures { state self.new ≡ unmarked (state self.old) frame.number }
     {
-        for slot in 0..SLOTS {
-            self.clean_at(slot, frame);
+        for index in 0..SLOTS {
+            self.clean_at(Slot::new(index), frame);
         }
-        self.marks[frame as usize] = false;
+        self.marks[frame.index()] = false;
     }
 
-    fn is_modified(&self, frame: u16) -> bool
-        requires { frame < 256 }
-        ensures { result ≡ modified_in (state self.now) frame }
+    fn is_modified(&self, frame: Frame) -> bool
+        ensures { result ≡ modified_in (state self.now) frame.number }
     {
-        if self.is_marked(frame) {
-            return true;
-        }
-        for slot in 0..SLOTS {
-            if self.dirty_at(slot, frame) {
-                return true;
-            }
-        }
-        false
+        self.is_marked(frame)
+            || (0..SLOTS)
+                .map(Slot::new)
+                .any(|slot| self.dirty_at(slot, frame))
     }
 
     // Removes every mapping of the frame.
@@ -86,9 +77,7 @@ impl Board {
         ensures answer { result ≡ or_range (fits_frame frame) tt }
         ensures leaves { state self.new ≡ drop_leaves (state self.old) frame }
     {
-        if !fits_frame(frame) {
-            return Err(PmapRefusal::Range);
-        }
+        let frame = Frame::new(frame)?;
         self.drop_all(frame);
         Ok(())
     }
@@ -97,9 +86,7 @@ impl Board {
     pub fn modified(&self, frame: u16) -> Result<bool, PmapRefusal>
         ensures { result ≡ modified_answer (state self.now) frame }
     {
-        if !fits_frame(frame) {
-            return Err(PmapRefusal::Range);
-        }
+        let frame = Frame::new(frame)?;
         Ok(self.is_modified(frame))
     }
 
@@ -108,9 +95,7 @@ impl Board {
         ensures answer { result ≡ or_range (fits_frame frame) tt }
         ensures leaves { state self.new ≡ unmark_leaves (state self.old) frame }
     {
-        if !fits_frame(frame) {
-            return Err(PmapRefusal::Range);
-        }
+        let frame = Frame::new(frame)?;
         self.unmark(frame);
         Ok(())
     }

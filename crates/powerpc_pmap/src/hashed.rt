@@ -12,7 +12,7 @@ ghost use Rattle.powerpc_pmap.specs.Hardware.{translated, Translates};
 use pmap::access::Access;
 use pmap::interface::Pmap;
 use powerpc::board::Board;
-use powerpc::making::NotMade;
+use refusal::making::NotMade;
 use refusal::pmap::PmapRefusal;
 use std::alloc::Global;
 
@@ -23,8 +23,8 @@ pub struct Hashed {
 
 impl Hashed {
     // A pmap over the given table memory, in its starting state.
-    pub fn new(heap: Global, words: Vec<u32>) -> Result<Hashed, NotMade>
-        ensures { MatchResult result (λ h. (length words.items ≡ 16384) × (state h.board ≡ start) × Kept (state h.board)) (λ e. Unmade words.items e) }
+    pub fn new(heap: Global, words: Vec<u32>) -> Result<Hashed, NotMade<Vec<u32>>>
+        ensures { MatchResult result (λ h. (length words.items ≡ 16384) × (state h.board ≡ start) × Kept (state h.board)) (λ e. Unmade words e) }
     {
         let board = Board::new(heap, words)?;
         Ok(Hashed { board })
@@ -36,10 +36,8 @@ impl Hashed {
         ensures answer { result ≡ or_range (fits_place space page) (translated self.now.board.words.items space page) }
         ensures agrees { Translates self.now.board.words.items (view_of (state self.now.board)) }
     {
-        let Some((frame, protection, _)) = self.board.find(space, page)? else {
-            return Ok(None);
-        };
-        Ok(Some((frame, protection)))
+        let found = self.board.find(space, page)?;
+        Ok(found.map(|(frame, protection, _)| (frame, protection)))
     }
 }
 

@@ -1,5 +1,5 @@
 -- What a call leaves and answers, by what its searches found.
-use Rattle.std.proofs.Common.{◌≡◌, ℕ, Bool, true, false, not, ◌&&◌, eqb, Some, None, Option, sym, refl, ap, ◌∙◌}
+use Rattle.std.proofs.Common.{◌≡◌, ℕ, Bool, true, false, Some, None, ap, ◌∙◌}
 use Rattle.std.proofs.lemmas.Bool.{cond-true, cond-false}
 use Rattle.pmap.specs.Meaning.{allows, answered}
 use Rattle.pmap.specs.declared.access.Access.TheVariants.{Hit, Miss}
@@ -7,7 +7,7 @@ use Rattle.powerpc_words.specs.Fields.{frame_of, protection_of, touched, lowered
 use Rattle.powerpc_words.specs.State.{State, second, wired_at}
 use Rattle.powerpc_words.specs.Search.{lookup, unused, victim}
 use Rattle.powerpc_words.specs.Changes.{emptied, emptied_at, removed, forgotten, filled, placed, reworded, accessed, accessed_at, restricted, lowered_at, unwired, unwired_at}
-use Rattle.powerpc_words.specs.Answers.{holds, mapping_at, wired_beside}
+use Rattle.powerpc_words.specs.Answers.{holds, mapping_at}
 
 module _ (st : State) (s p : ℕ) where
   module _ (missed : lookup st.words s p ≡ None) where
@@ -74,21 +74,3 @@ module _ (st : State) (s p : ℕ) where
     pub placed_victim : (k : ℕ) → unused st.words s p ≡ None → victim st s p ≡ Some k → placed st s p f q wired ≡ filled (forgotten st k) k s p f q wired
     unfolding placed
     placed_victim k e v = rw (e, v)
-
-    pub placed_none : unused st.words s p ≡ None → victim st s p ≡ None → placed st s p f q wired ≡ st
-    unfolding placed
-    placed_none e v = rw (e, v)
-
--- a slot beside a given one
-module _ (st : State) (own : Option ℕ) (k : ℕ) where
-  pub beside_some : (j : ℕ) (w : Bool) → own ≡ Some j → w ≡ wired_at st k → (w && not (eqb k j)) ≡ wired_beside st own k
-  unfolding wired_beside
-  beside_some j w e f = rw (e, f)
-
-  pub beside_none : own ≡ None → wired_at st k ≡ wired_beside st own k
-  unfolding wired_beside
-  beside_none e = rw e (sym (and_true (wired_at st k)))
-    where
-      and_true : (b : Bool) → (b && true) ≡ b
-      and_true true = refl
-      and_true false = refl

@@ -1,6 +1,6 @@
 -- The fields of a word by bit operations, as the code has them.
 use Rattle.std.proofs.Common.{◌≡◌, ℕ, ◌+◌, ◌-◌, ◌*◌, ◌/◌, ◌%◌, ◌^◌, ◌<◌, Bool, true, false, not, eqb, ◌⊎◌, ap, ◌∙◌, inl, inr, ⊎_elim, arith, lit<}
-use lib.Bits.{bit_and, bit_or, and_high, or_add_and, and_mask, and_block}
+use lib.Bits.{bit_and, bit_or, and_high, or_add_and, or_lt, and_mask, and_block}
 use Rattle.std.proofs.lemmas.Nat.{pow-add, field_of}
 use Rattle.std.proofs.lemmas.Bool.Decides.{nat_tests}
 use Rattle.std.proofs.lemmas.Bool.{cases_eq}
@@ -19,6 +19,10 @@ or_bit w k = ⊎_elim
   where
     two : (n : ℕ) → n < 2 → (n ≡ 0) ⊎ (n ≡ 1)
     two n h = ⊎_elim (λ e. inl e) (λ ne. inr (omega arith)) (cases_eq n 0)
+
+-- a word with bits below the frame's end put on
+pub or_below : (w m : ℕ) → w < 1048576 → m < 1048576 → bit_or w m < 1048576
+or_below w m h k = or_lt 20 w m h k
 
 pub changed_is : (w : ℕ) → not (eqb (bit_and w 128) 0) ≡ changed w
 unfolding changed

@@ -39,15 +39,6 @@ pub hash_is : (space page v : ℕ) → v ≡ vsid space (segment_of page) → bi
 unfolding hash
 hash_is space page v e = and_mask (bit_xor v (index_of page)) 10 ∙ ap (λ x. bit_xor x (index_of page) % 1024) e
 
--- the group by the hash
-pub group_primary : (space page h : ℕ) (side : Bool) → side ≡ false → h ≡ hash space page → h ≡ group space page side
-unfolding group
-group_primary space page h side f e = rw f e
-
-pub group_secondary : (space page h : ℕ) (side : Bool) → side ≡ true → h ≡ hash space page → 1023 - h ≡ group space page side
-unfolding group
-group_secondary space page h side t e = rw t (ap (λ x. 1023 - x) e)
-
 -- ---- a place by its first word and its group
 -- an entry in use has a first word above zero
 pub entry_above : (space page : ℕ) (side : Bool) → 0 < entry_word space page side

@@ -1,10 +1,13 @@
 -- Going through all slots: what the steps leave is the list by index that the rules name.
-use Rattle.std.proofs.Common.{◌≡◌, ℕ, ◌+◌, ◌*◌, ◌/◌, ◌%◌, ◌<◌, ◌≤◌, Bool, true, false, cond, ◌&&◌, ◌||◌, eqb, ltb, List, map, length, get_or, set, Decides, sym, refl, ap, ◌∙◌, subst, ⊎_elim, add-one, arith}
-use Rattle.std.specs.List.{range_with_len}
-use Rattle.std.proofs.lemmas.Bool.{eq-eqb, ne_eqb, cond-true, cond-false, cond_both, cases_eq, and_parts, and_left, eqb-true, lt-ltb, le-ltb, or_left, or_right, or_from}
+use Rattle.std.proofs.Common.{◌≡◌, ℕ, ◌+◌, ◌*◌, ◌/◌, ◌%◌, ◌<◌, ◌≤◌, Bool, true, false, cond, ◌&&◌, ◌||◌, eqb, ltb, List, map, length, get_or, set, Decides, sym, refl, ap, ◌∙◌, subst, zero, suc, zero-add, ⊎_elim, add-one, arith}
+use Rattle.std.specs.Bool.{MatchBool}
+use Rattle.std.specs.List.{range_with_len, filter, count_by, HoldsAt, AllWithin}
+use Rattle.std.proofs.lemmas.Bool.{eq-eqb, ne_eqb, cond-true, cond-false, cond_both, cases_eq, cases_Bool, and_parts, eqb-true, or_left, or_right, or_from}
 use Rattle.std.proofs.lemmas.Bool.Decides.{Decides-below_or}
-use Rattle.std.proofs.lemmas.List.FromFn.{fill_by_all}
+use Rattle.std.proofs.lemmas.List.FromFn.{fill_by_all, length-map-range_with_len, get_or-map-range_with_len, sum_by-map-range_with_len_more}
+use Rattle.std.proofs.lemmas.List.Sums.{length-filter}
 use Rattle.std.proofs.lemmas.List.{get_or-set_same, get_or-set_other, length-set, set-get_or, set-set}
+use Rattle.pmap.specs.Tally.{tally}
 use Rattle.powerpc_words.specs.Fields.{frame_of, changed, cleaned}
 use Rattle.powerpc_words.specs.State.{State, second}
 use Rattle.powerpc_words.specs.Changes.{emptied, reworded, maps, dirty_at, any_dirty, modified_in, drop_at, clean_at, dropped_word, dropped_wired, dropped, clean_word, unmarked}
@@ -63,24 +66,6 @@ pub maps_frame : (words : List ℕ) (f k : ℕ) → maps words f k ≡ true → 
 unfolding maps
 maps_frame words f k e = eqb-true _ f (and_parts (ltb 0 (get_or words (2 * k) 0)) _ e).1
 
--- what the code reads of a slot decides the tests
-module _ (words : List ℕ) (f k : ℕ) where
-  pub maps_on : (a b : ℕ) → a ≡ get_or words (2 * k) 0 → b ≡ frame_of (get_or words (2 * k + 1) 0) → 0 < a → eqb b f ≡ maps words f k
-  unfolding maps
-  maps_on a b p q h = ap (λ t. t && eqb b f) (sym (lt-ltb 0 a h)) ∙ rw (p, q)
-
-  pub maps_off : (a : ℕ) → a ≡ get_or words (2 * k) 0 → a ≤ 0 → ltb 0 a ≡ maps words f k
-  unfolding maps
-  maps_off a p h = le-ltb 0 a h ∙ sym (and_left (ltb 0 (get_or words (2 * k) 0)) _ (ap (ltb 0) (sym p) ∙ le-ltb 0 a h))
-
-  pub dirty_on : (b : ℕ) → b ≡ get_or words (2 * k + 1) 0 → true ≡ maps words f k → changed b ≡ dirty_at words f k
-  unfolding dirty_at
-  dirty_on b q e = ap changed q ∙ ap (λ t. t && changed (get_or words (2 * k + 1) 0)) e
-
-  pub dirty_off : false ≡ maps words f k → false ≡ dirty_at words f k
-  unfolding dirty_at
-  dirty_off e = ap (λ t. t && changed (get_or words (2 * k + 1) 0)) e
-
 pub any_dirty_none : (words : List ℕ) (f : ℕ) → any_dirty words f 0 ≡ false
 unfolding any_dirty
 any_dirty_none words f = refl
@@ -93,6 +78,30 @@ any_dirty_more words f i = rw add-one
 pub any_dirty_decides : (words : List ℕ) (f n : ℕ) → Decides (any_dirty words f n) ((k : ℕ) × (k < n) × (dirty_at words f k ≡ true))
 unfolding any_dirty
 any_dirty_decides words f n = Decides-below_or (dirty_at words f) (λ k. dirty_at words f k ≡ true) (any_dirty words f) (λ k. ((λ e. e), (λ e. e))) refl (λ _. refl) n
+
+-- what `any` answers over the first n slots
+pub any_dirty_from : (words : List ℕ) (f n : ℕ) (r : Bool) → let all : List ℕ = map (λ k. k) (range_with_len 0 n) in
+    MatchBool r ((k : ℕ) × (k < length all) × HoldsAt (λ k. dirty_at words f k ≡ true) all k) (AllWithin (λ k. dirty_at words f k ≡ false) all 0 (length all)) → r ≡ any_dirty words f n
+any_dirty_from words f n true (k, b, e) =
+    let h : k < n = omega (arith, b, length-map-range_with_len {X = ℕ} (λ k. k) 0 n) in
+    sym ((any_dirty_decides words f n).1 (k, h, subst (λ j. dirty_at words f j ≡ true) (get_or-map-range_with_len (λ k. k) 0 n k k 0 h (zero-add k)) (e 0)))
+any_dirty_from words f n false none = ⊎_elim
+    (λ (t : any_dirty words f n ≡ true).
+      let some = (any_dirty_decides words f n).0 t in
+      let k = some.0 in
+      let off : dirty_at words f k ≡ false = subst (λ j. dirty_at words f j ≡ false) (get_or-map-range_with_len (λ k. k) 0 n k k 0 some.1 (zero-add k)) (none k 0 (omega arith) (omega (arith, some.1, length-map-range_with_len {X = ℕ} (λ k. k) 0 n))) in
+      absurd (cc (some.2, off)))
+    (λ (t : any_dirty words f n ≡ false). sym t)
+    (cases_Bool (any_dirty words f n))
+
+-- how many of the first n numbers a filter leaves
+pub tally_filtered : (test : ℕ → Bool) (n : ℕ) → length (filter test (map (λ k. k) (range_with_len 0 n))) ≡ tally test n
+unfolding tally
+tally_filtered test zero = refl
+tally_filtered test (suc n) =
+    let more : count_by test (map (λ k. k) (range_with_len 0 (n + 1))) ≡ count_by test (map (λ k. k) (range_with_len 0 n)) + cond (test n) 1 0 = sum_by-map-range_with_len_more (λ k. cond (test k) 1 0) (λ k. k) 0 n n (zero-add n) in
+    let next : count_by test (map (λ k. k) (range_with_len 0 (suc n))) ≡ count_by test (map (λ k. k) (range_with_len 0 n)) + cond (test n) 1 0 = rw add-one at more in
+    omega (arith, next, tally_filtered test n, length-filter test (map (λ k. k) (range_with_len 0 n)), length-filter test (map (λ k. k) (range_with_len 0 (suc n))))
 
 module _ (st : State) (f : ℕ) where
   pub modified_mark : get_or st.marks f false ≡ true → true ≡ modified_in st f

@@ -1,10 +1,13 @@
 // The fields of the two words of an entry.
-ghost use Rattle.std.specs.Prelude.{◌≡◌, ◌<◌};
-ghost use Rattle.powerpc_words.specs.Fields.{first_word, frame_of, changed as is_changed, protection_of, second_word, touched as after_hit, lowered as as_lowered, cleaned as as_cleaned};
+ghost use Rattle.std.specs.Prelude.{◌≡◌, ℕ, ◌<◌};
+ghost use Rattle.powerpc_words.specs.Fields.{first_word, second_word, frame_of, changed as is_changed, protection_of, touched, lowered, cleaned};
 
-const R: u32 = 0x100;
+use pmap::frame::Frame;
+use std::marker::Model;
 
-const C: u32 = 0x80;
+const R: u32 = 1 << 8;
+
+const C: u32 = 1 << 7;
 
 pub fn first_word(vsid: u32, h: u32, api: u32) -> u32
     requires { (vsid < 16777216) × ((h < 2) × (api < 64)) }
@@ -13,23 +16,7 @@ pub fn first_word(vsid: u32, h: u32, api: u32) -> u32
     0x8000_0000 + vsid * 128 + h * 64 + api
 }
 
-pub fn second_word(frame: u16, protection: u8) -> u32
-    requires { frame < 256 }
-    ensures value { result ≡ second_word frame protection }
-    ensures bound { result < 1048576 }
-{
-    let pp = if protection == 3 { 2 } else { 3 };
-    frame as u32 * 4096 + pp
-}
-
-pub fn frame_of(second: u32) -> u16
-    requires { second < 1048576 }
-    ensures value { result ≡ frame_of second }
-    ensures bound { result < 256 }
-{
-    (second >> 12) as u16
-}
-
+#[tactic(auto, using(crate::proofs::FieldLaws::changed_is))]
 pub fn changed(second: u32) -> bool
     ensures { result ≡ is_changed second }
 {
@@ -42,30 +29,69 @@ pub fn protection_of(second: u32) -> u8
     if second % 4 == 2 { 3 } else { 1 }
 }
 
-// The second word after a read or a write.
-pub fn touched(second: u32, write: bool) -> u32
-    requires { second < 1048576 }
-    ensures value { result ≡ after_hit write second }
-    ensures bound { result < 1048576 }
-{
-    let referenced = second | R;
-    if write { referenced | C } else { referenced }
+// A second word whose frame is in range.
+#[derive(Clone, Copy)]
+pub struct Second {
+    pub word: u32,
 }
 
-// The second word with protection 1.
-pub fn lowered(second: u32) -> u32
-    requires { second < 1048576 }
-    ensures value { result ≡ as_lowered second }
-    ensures bound { result < 1048576 }
-{
-    second | 3
+impl Model for Second {
+    ghost Value = { ℕ };
+
+    ghost view = { λ s. s.word };
+
+    ghost invariant = { λ s. s.word < 1048576 };
+
+    ghost inverse = { λ n. record { word = n } };
 }
 
-// The second word with C off.
-pub fn cleaned(second: u32) -> u32
-    requires { second < 1048576 }
-    ensures value { result ≡ as_cleaned second }
-    ensures bound { result < 1048576 }
-{
-    second & !C
+impl Second {
+    // The second word of a new entry.
+    pub fn new(frame: Frame, protection: u8) -> Second
+        ensures { result ≡ second_word frame.number protection }
+    {
+        let pp = if protection == 3 { 2 } else { 3 };
+        Second {
+            word: u32::from(frame.number) << 12 | pp,
+        }
+    }
+
+    pub fn frame(self) -> Frame
+        ensures { result.number ≡ frame_of self }
+    {
+        Frame {
+            number: (self.word >> 12) as u16,
+        }
+    }
+
+    // The second word after a read or a write.
+    #[tactic(auto, using(crate::proofs::FieldLaws::touched_read, crate::proofs::FieldLaws::touched_write, crate::proofs::FieldLaws::or_below))]
+    pub fn touched(self, write: bool) -> Second
+        ensures { result ≡ touched write self }
+    {
+        let referenced = self.word | R;
+        Second {
+            word: if write { referenced | C } else { referenced },
+        }
+    }
+
+    // The second word with protection 1.
+    #[tactic(auto, using(crate::proofs::FieldLaws::lowered_is, crate::proofs::FieldLaws::or_below))]
+    pub fn lowered(self) -> Second
+        ensures { result ≡ lowered self }
+    {
+        Second {
+            word: self.word | 3,
+        }
+    }
+
+    // The second word with C off.
+    #[tactic(auto, using(crate::proofs::FieldLaws::cleaned_is))]
+    pub fn cleaned(self) -> Second
+        ensures { result ≡ cleaned self }
+    {
+        Second {
+            word: self.word & !C,
+        }
+    }
 }

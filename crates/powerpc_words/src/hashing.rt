@@ -3,38 +3,42 @@ ghost use Rattle.std.specs.Prelude.{◌≡◌, ◌<◌};
 ghost use Rattle.powerpc_words.specs.Hashing.{vsid as virtual_segment, segment_of, hash as hash_of, group as group_of, entry_word};
 
 use crate::fields::first_word;
+use pmap::place::Place;
 
 // The virtual segment of a page's segment.
-pub fn vsid(space: u8, page: u32) -> u32
-    requires { (space < 4) × (page < 262144) }
-    ensures value { result ≡ virtual_segment space (segment_of page) }
+#[tactic(auto, unfolding(crate::specs::Hashing::vsid))]
+pub fn vsid(at: Place) -> u32
+    ensures value { result ≡ virtual_segment at.space (segment_of at.page) }
     ensures bound { result < 16777216 }
 {
-    16 * space as u32 + page / 65_536
+    16 * u32::from(at.space) + at.page / 65_536
 }
 
-fn hash(space: u8, page: u32) -> u32
-    requires { (space < 4) × (page < 262144) }
-    ensures value { result ≡ hash_of space page }
+#[tactic(auto, using(crate::proofs::HashLaws::hash_is))]
+fn hash(at: Place) -> usize
+    ensures value { result ≡ hash_of at.space at.page }
     ensures bound { result < 1024 }
 {
-    (vsid(space, page) ^ page % 65_536) & 0x3ff
+    ((vsid(at) ^ at.page % 65_536) & 0x3ff) as usize
 }
 
 // The primary group of a place, or the secondary: its complement in ten bits.
-pub fn group(space: u8, page: u32, secondary: bool) -> usize
-    requires { (space < 4) × (page < 262144) }
-    ensures value { result ≡ group_of space page secondary }
+#[tactic(auto, unfolding(crate::specs::Hashing::group))]
+pub fn group(at: Place, secondary: bool) -> usize
+    ensures value { result ≡ group_of at.space at.page secondary }
     ensures bound { result < 1024 }
 {
-    let hash = hash(space, page) as usize;
-    if secondary { 0x3ff - hash } else { hash }
+    if secondary {
+        0x3ff - hash(at)
+    } else {
+        hash(at)
+    }
 }
 
 // The first word of a place's entry in its primary or its secondary group.
-pub fn entry_word(space: u8, page: u32, secondary: bool) -> u32
-    requires { (space < 4) × (page < 262144) }
-    ensures { result ≡ entry_word space page secondary }
+#[tactic(auto, unfolding(crate::specs::Hashing::entry_word))]
+pub fn entry_word(at: Place, secondary: bool) -> u32
+    ensures { result ≡ entry_word at.space at.page secondary }
 {
-    first_word(vsid(space, page), secondary as u32, page % 65_536 / 1024)
+    first_word(vsid(at), u32::from(secondary), at.page % 65_536 / 1024)
 }

@@ -7,3 +7,4 @@ pub mod fields;
 pub mod hashing;
 pub mod places;
 pub mod search;
+pub mod slot;

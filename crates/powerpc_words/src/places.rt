@@ -8,7 +8,8 @@ ghost use Rattle.powerpc_words.specs.Search.{lookup as looked_up};
 
 use crate::hashing::{entry_word, group, vsid};
 use crate::search::lookup;
-use pmap::range::fits_place;
+use crate::slot::Slot;
+use pmap::place::Place;
 use refusal::pmap::PmapRefusal;
 
 // The VSID of a place, its two groups, and the first word of its entry in each.
@@ -24,15 +25,13 @@ pub struct Indices {
 pub fn indices_of(space: u8, page: u32) -> Result<Indices, PmapRefusal>
     ensures { result ≡ or_range (fits_place space page) (indices_of space page) }
 {
-    if !fits_place(space, page) {
-        return Err(PmapRefusal::Range);
-    }
+    let at = Place::new(space, page)?;
     Ok(Indices {
-        vsid: vsid(space, page),
-        primary: group(space, page, false),
-        secondary: group(space, page, true),
-        first: entry_word(space, page, false),
-        alternate: entry_word(space, page, true),
+        vsid: vsid(at),
+        primary: group(at, false),
+        secondary: group(at, true),
+        first: entry_word(at, false),
+        alternate: entry_word(at, true),
     })
 }
 
@@ -41,10 +40,8 @@ pub fn slot_of(words: &[u32], space: u8, page: u32) -> Result<Option<usize>, Pma
     ensures value { result ≡ or_range (fits_place space page) (looked_up words.now space page) }
     ensures bound { IfOk result (λ found. IfSome found (λ k. k < 8192)) }
 {
-    if !fits_place(space, page) {
-        return Err(PmapRefusal::Range);
-    }
-    Ok(lookup(words, space, page))
+    let at = Place::new(space, page)?;
+    Ok(lookup(words, at).map(Slot::index))
 }
 
 // The worked cases hold.

@@ -1,22 +1,14 @@
-use Rattle.std.proofs.Common.{◌+◌, ◌-◌, ◌*◌, sym, ◌∙◌, arith}
-use Rattle.powerpc_words.proofs.SearchLaws.{slot_from_here, slot_from_more, slot_from_none, slot_in_is}
+use Rattle.std.proofs.Common.{◌*◌, eqb, get_or, sym, ◌∙◌, rules, arith, tests}
+use Rattle.std.proofs.lemmas.Iterator.{YieldsList-from_map, YieldsList-from_range}
+use Rattle.std.proofs.lemmas.Iterator.Adapters.{option_map_id}
+use Rattle.std.proofs.lemmas.Iterator.Search.{find_from_yields_List}
+use Rattle.powerpc_words.proofs.SearchLaws.{slot_in_find}
 use Rattle.powerpc_words.proofs.search.slot_in.Goals as goal
 
-pub returns-then-word_at-first : goal.returns-then-word_at-first
-returns-then-word_at-first c = record {
-  value = sym (slot_in_is c.args.words.now c.args.group c.args.first ∙ c.loop-slot.invariant ∙
-      slot_from_here c.args.words.now c.args.first c.loop-slot.slot
-      (8 * c.args.group + 8 - c.loop-slot.slot) (8 * c.args.group + 7 - c.loop-slot.slot) c.word_at.result (omega arith) c.word_at.ensures c.if-word_at-first.true);
-  bound = omega arith;
-}
-
-pub loop-slot-preserved : goal.loop-slot-preserved
-loop-slot-preserved c =
-    c.loop-slot.invariant ∙ slot_from_more c.args.words.now c.args.first c.loop-slot.slot
-    (8 * c.args.group + 8 - c.loop-slot.slot) (8 * c.args.group + 8 - (c.loop-slot.slot + 1)) c.word_at.result (omega arith) c.word_at.ensures c.if-word_at-first.false
-
 pub returns : goal.returns
-returns c = record {
-  value = sym (slot_in_is c.args.words.now c.args.group c.args.first ∙ c.loop-slot.invariant ∙ slot_from_none _ _ _ _ (omega arith));
-  bound = tt;
-}
+returns c =
+    sym (option_map_id c.find.result)
+    ∙ find_from_yields_List (λ k. eqb (get_or c.args.words.now (2 * k) 0) c.args.first) _ _ _ c.find.ensures.ran
+    (YieldsList-from_map _ (λ k. k) (YieldsList-from_range (8 * c.args.group) _ 8 c.map.ensures.source (omega arith)) c.map.ensures.closure (λ x r q k. search rules))
+    (λ x b q k. search (rules, tests))
+    ∙ sym (slot_in_find c.args.words.now c.args.group c.args.first)

@@ -2,5 +2,5 @@ use Rattle.powerpc.specs.Reads.{state}
 use Rattle.powerpc_words.proofs.SweepLaws.{Dropping}
 use Rattle.powerpc.proofs.board.Board.drop_all.Given as goal
 
-abbrev pub invariant-loop-slot : goal.invariant-loop-slot
-invariant-loop-slot l = Dropping (state l.initial.self) l.frame l.slot (state l.self)
+abbrev pub invariant-loop-index : goal.invariant-loop-index
+invariant-loop-index l = Dropping (state l.initial.self) l.frame.number l.index (state l.self)

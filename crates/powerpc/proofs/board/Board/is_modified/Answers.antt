@@ -1,26 +1,20 @@
-use Rattle.std.proofs.Common.{◌≡◌, false, vec_items, sym, ◌∙◌, arith}
-use Rattle.std.proofs.lemmas.Bool.{or_from}
-use Rattle.powerpc.specs.Reads.{state}
-use Rattle.powerpc_words.specs.Changes.{any_dirty}
-use Rattle.powerpc_words.proofs.SweepLaws.{any_dirty_none, any_dirty_more, modified_mark, modified_slot, modified_none}
+use Rattle.std.proofs.Common.{◌≡◌, true, false, vec_items, sym, rules, arith, tests}
+use Rattle.std.proofs.lemmas.Iterator.{YieldsList-from_map, YieldsList-from_range, cases_from_any}
+use Rattle.powerpc_words.specs.Changes.{dirty_at, modified_in}
+use Rattle.powerpc_words.proofs.SweepLaws.{any_dirty_from}
 use Rattle.powerpc.proofs.board.Board.is_modified.Goals as goal
 
 pub returns-then-is_marked : goal.returns-then-is_marked
-returns-then-is_marked c = modified_mark (state c.args.self.now) c.args.frame (sym c.if-is_marked.ensures)
+unfolding modified_in
+returns-then-is_marked c = search rules
 
-pub returns-then-dirty_at : goal.returns-then-dirty_at
-returns-then-dirty_at c = modified_slot (state c.args.self.now) c.args.frame c.loop-slot.slot c.loop-slot-test.true (sym c.if-dirty_at.ensures)
-
-pub loop-slot-init : goal.loop-slot-init
-loop-slot-init c = any_dirty_none (vec_items c.args.self.now.words) c.args.frame
-
-pub loop-slot-preserved : goal.loop-slot-preserved
-loop-slot-preserved c =
-    any_dirty_more (vec_items c.args.self.now.words) c.args.frame c.loop-slot.slot
-    ∙ or_from _ _ (sym c.if-dirty_at.ensures) c.loop-slot.invariant
-
-pub returns : goal.returns
-returns c =
-    let full : c.loop-slot.slot ≡ 8192 = omega arith in
-    let none : any_dirty (vec_items c.args.self.now.words) c.args.frame 8192 ≡ false = rw full at c.loop-slot.invariant in
-    modified_none (state c.args.self.now) c.args.frame (sym c.if-is_marked.ensures) none
+pub returns-else-is_marked : goal.returns-else-is_marked
+unfolding modified_in
+returns-else-is_marked c =
+    let words = vec_items c.args.self.now.words in
+    let f = c.args.frame.number in
+    rw (sym c.if-is_marked.ensures) (any_dirty_from words f 8192 c.any.result
+    (cases_from_any _ _ c.any.result (λ k. dirty_at words f k ≡ true) (λ k. dirty_at words f k ≡ false) c.any.ensures.ran
+    (YieldsList-from_map _ (λ k. k) (YieldsList-from_range 0 _ 8192 c.map.ensures.source (omega arith)) c.map.ensures.closure (λ x r q k. search rules))
+    (λ x q k. search (rules, tests))
+    (λ x q k. search (rules, tests))))

@@ -2,5 +2,5 @@ use Rattle.powerpc.specs.Reads.{state}
 use Rattle.powerpc_words.proofs.SweepLaws.{Cleaning}
 use Rattle.powerpc.proofs.board.Board.unmark.Given as goal
 
-abbrev pub invariant-loop-slot : goal.invariant-loop-slot
-invariant-loop-slot l = Cleaning (state l.initial.self) l.frame l.slot (state l.self)
+abbrev pub invariant-loop-index : goal.invariant-loop-index
+invariant-loop-index l = Cleaning (state l.initial.self) l.frame.number l.index (state l.self)
