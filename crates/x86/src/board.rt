@@ -1,7 +1,7 @@
 // The board: its table words, a modified mark for each frame, and the leaf to look at first when one is taken.
-ghost use Rattle.std.specs.Prelude.{◌≡◌, ◌≤◌, vec_len};
+ghost use Rattle.std.specs.Prelude.{◌≡◌, vec_len};
 
-use x86_words::leaves::{FIRST_LEAF, TABLE};
+use x86_words::leaves::{FIRST_LEAF, Leaf, TABLE};
 
 mod calls;
 mod cells;
@@ -12,8 +12,6 @@ mod places;
 mod wirings;
 
 pub const WORDS: usize = 8192;
-
-pub const FRAMES: usize = 256;
 
 // The table of space 0's page directory; those of the other spaces follow.
 const FIRST_DIRECTORY: usize = 2;
@@ -27,9 +25,7 @@ const LEAVES: usize = FIRST_LEAF * TABLE;
 pub struct Board {
     words: Vec<u64>,
     marks: Vec<bool>,
-    next: usize,
+    next: Leaf,
     ghost sized: { vec_len words ≡ 8192 },
     ghost marked: { vec_len marks ≡ 256 },
-    ghost low: { 6 ≤ next },
-    ghost high: { next ≤ 15 },
 }

@@ -3,7 +3,7 @@ use Rattle.std.proofs.Common.{◌≡◌, ℕ, ◌+◌, ◌/◌, ◌<◌, ◌≤�
 use Rattle.std.proofs.lemmas.Bool.{cases_eq, and_parts, and_from, leb-true}
 use Rattle.std.proofs.lemmas.List.{get_or-set_same, get_or-set_other, length-set}
 use Rattle.pmap.specs.Tally.{tally}
-use Rattle.x86_words.specs.Words.{wired, touched}
+use Rattle.x86_words.specs.Words.{put_on, wired, touched}
 use Rattle.x86_words.specs.State.{State, word_at, written, is_leaf}
 use Rattle.x86_pmap.specs.Kept.{Kept, Points, Mapped, Owner, wired_leaf}
 use Rattle.x86_pmap.proofs.Fields.{points_touched}
@@ -18,7 +18,7 @@ module _ (w v : ℕ) (a : Alike w v) where
   alike_points t p = ⊎_elim (λ (e : v ≡ w). rw e p) (λ (e : (w ≡ 0 → ⊥) × (v ≡ touched w)). rw e.1 (points_touched w t p)) a
 
   pub alike_back : (t : ℕ) → Points v t → Points w t
-  unfolding touched
+  unfolding put_on
   alike_back t p = ⊎_elim
       (λ (e : v ≡ w). subst (λ x. Points x t) e p)
       (λ (e : (w ≡ 0 → ⊥) × (v ≡ touched w)). let q : Points (touched w) t = subst (λ x. Points x t) e.1 p in record { is = omega arith })

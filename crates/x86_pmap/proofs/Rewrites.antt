@@ -9,7 +9,7 @@ use Rattle.slots.specs.Slots.{Entry, Shows, Single}
 use Rattle.slots.specs.Changes.{Rewritten}
 use Rattle.slots.proofs.Shown.{unchanged_same, rewritten_here, rewritten_was, rewritten_others, rewritten_marks, rewritten_same_marks, added}
 use Rattle.x86_words.specs.declared.walk.Walk.{Walk}
-use Rattle.x86_words.specs.Words.{present, writable, dirty, wired, frame_of, protection_of, touched, read_only, unwired, hit_word, serves}
+use Rattle.x86_words.specs.Words.{put_off, present, writable, dirty, wired, frame_of, protection_of, touched, read_only, unwired, hit_word, serves}
 use Rattle.x86_words.specs.Walks.{linear, walk}
 use Rattle.x86_words.specs.State.{State, word_at, written, rewritten, reached, found_in, rewritten_at, hit, accessed, access_answer}
 use Rattle.x86_pmap.specs.Kept.{Kept, Mapped}
@@ -124,11 +124,11 @@ module _ (s p : ℕ) (x : s < 4) (y : p < 262144) where
           (page_cases st K (linear s p) (page_inside s p x y))
 
 zero_read_only : read_only 0 ≡ 0
-unfolding read_only
+unfolding put_off
 zero_read_only = refl
 
 zero_unwired : unwired 0 ≡ 0
-unfolding unwired
+unfolding put_off
 zero_unwired = refl
 
 module _ (s p : ℕ) (x : s < 4) (y : p < 262144) (st : State) (K : Kept st) where

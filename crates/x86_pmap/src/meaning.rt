@@ -11,10 +11,10 @@ ghost use Rattle.x86_pmap.specs.Views.{view_of};
 
 use pmap::access::Access;
 use pmap::interface::Pmap;
+use refusal::making::NotMade;
 use refusal::pmap::PmapRefusal;
 use std::alloc::Global;
 use x86::board::Board;
-use x86::board::making::NotMade;
 use x86_words::lookup::look_up;
 use x86_words::walk::linear_page;
 
@@ -25,7 +25,7 @@ pub struct X86 {
 
 impl X86 {
     // A pmap over the given table memory, cleared. Memory of another length is refused and comes back as it was.
-    pub fn new(heap: Global, words: Vec<u64>) -> Result<X86, NotMade>
+    pub fn new(heap: Global, words: Vec<u64>) -> Result<X86, NotMade<Vec<u64>>>
         ensures { MatchResult result (λ x. Cleared (view_of (state x.board)) × Kept (state x.board) × (vec_len words ≡ 8192)) (Returned words) }
     {
         let board = Board::new(heap, words)?;

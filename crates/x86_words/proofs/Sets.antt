@@ -1,12 +1,17 @@
 -- The sets of positions that the loops go over, and the searches in them.
-use Rattle.std.proofs.Common.{◌≡◌, ℕ, zero, suc, ◌+◌, ◌*◌, ◌/◌, ◌<◌, ◌≤◌, Bool, true, false, cond, ◌&&◌, ltb, leb, List, length, get_or, Decides, sym, refl, ap, ◌∙◌, ⊎_elim, add-one, arith}
-use Rattle.std.proofs.lemmas.Bool.{cond-true, cond-false, and_left, and_from, or_from, le-leb, lt-leb, lt-ltb, le-ltb, ne_eqb, eq-eqb, cases_Bool, leb-true, and_parts}
+use Rattle.std.proofs.Common.{◌≡◌, ℕ, zero, suc, ◌+◌, ◌*◌, ◌/◌, ◌<◌, ◌≤◌, Bool, true, false, cond, ◌&&◌, ltb, leb, List, map, length, get_or, take, drop, ◌||◌, Decides, sym, refl, ap, ◌∙◌, ⊎_elim, add-one, map-id, arith}
+use Rattle.std.proofs.Math.Nat.{add-suc}
+use Rattle.std.proofs.Math.Bool.{or_comm}
+use Rattle.std.proofs.lemmas.Bool.{cond-true, cond-false, and_left, and_from, le-leb, lt-leb, lt-ltb, le-ltb, ne_eqb, eq-eqb, cases_lt}
+use Rattle.std.specs.List.{list_any, count_by, range_with_len}
+use Rattle.std.proofs.lemmas.List.FromFn.{sum_by-map-range_with_len_more}
+use Rattle.std.proofs.lemmas.List.Folds.{list_any_more}
 use Rattle.std.proofs.lemmas.Bool.Decides.{Decides-below_or}
-use Rattle.std.proofs.lemmas.List.{get_or_past}
+use Rattle.std.proofs.lemmas.List.{get_or_past, get_or-drop, take_all, length-drop}
 use Rattle.pmap.specs.Tally.{tally}
-use Rattle.x86_words.specs.Words.{present, wired, maps, dirty_in, points_to, cleaned}
-use Rattle.x86_words.specs.State.{State, word_at, any_dirty, is_leaf, is_directory, mapping, in_leaf, any_wired, holds_wired, leaf_after, free_from, unlinked_word, unmarked_word}
-use Rattle.x86_words.proofs.Sweeps.{any_dirty_is}
+use Rattle.x86_words.specs.Words.{is_on, wired, maps, dirty_in, points_to, cleaned}
+use Rattle.x86_words.specs.State.{State, word_at, any_dirty, is_directory, mapping, in_leaf, any_wired, holds_wired, leaf_after, free_from, unlinked_word, unmarked_word}
+use Rattle.x86_words.proofs.Sweeps.{any_none}
 
 past_zero : (st : State) (k : ℕ) → length st.words ≡ 8192 → 8192 ≤ k → word_at st k ≡ 0
 past_zero st k n h = get_or_past st.words k 0 (omega arith)
@@ -20,7 +25,7 @@ module _ (st : State) (f : ℕ) where
   mapping_here i w h e = ap (λ b. b && maps (word_at st i) f) (le-leb 3072 i h) ∙ ap (λ v. maps v f) (sym e)
 
   pub mapping_past : length st.words ≡ 8192 → (k : ℕ) → 8192 ≤ k → mapping st f k ≡ false
-  unfolding present
+  unfolding is_on
   mapping_past n k h = ap (λ b. b && maps (word_at st k) f) (le-leb 3072 k (omega arith)) ∙ ap (λ v. maps v f) (past_zero st k n h)
 
   pub unmarked_low : (k : ℕ) → k < 3072 → unmarked_word st f k ≡ word_at st k
@@ -50,40 +55,46 @@ module _ (st : State) (t : ℕ) where
   pub unlinked_past : (k : ℕ) → 3072 ≤ k → unlinked_word st t k ≡ word_at st k
   unlinked_past k h = cond-false _ 0 (word_at st k) (and_left (is_directory k) _ (ap (λ b. b && ltb k 3072) (le-leb 1024 k (omega arith)) ∙ le-ltb k 3072 h))
 
--- a search for a dirty word among the leaves
-module _ (words : List ℕ) (f : ℕ) where
-  pub any_dirty_low : any_dirty words is_leaf f 3072 ≡ false
-  any_dirty_low = ⊎_elim
-      (λ (e : any_dirty words is_leaf f 3072 ≡ true). let x = (any_dirty_is words is_leaf f 3072).0 e in let le = leb-true 3072 x.0 (and_parts (is_leaf x.0) _ x.2).0 in absurd (omega (arith, x.1)))
-      (λ (e : any_dirty words is_leaf f 3072 ≡ false). e)
-      (cases_Bool (any_dirty words is_leaf f 3072))
-
-  pub any_dirty_found : (k : ℕ) → 3072 ≤ k → k < 8192 → dirty_in (get_or words k 0) f ≡ true → any_dirty words is_leaf f 8192 ≡ true
-  any_dirty_found k le lt d = (any_dirty_is words is_leaf f 8192).1 (k, lt, and_from (is_leaf k) _ (le-leb 3072 k le) d)
-
-  pub any_dirty_more : (k : ℕ) → dirty_in (get_or words k 0) f ≡ false → any_dirty words is_leaf f k ≡ false → any_dirty words is_leaf f (k + 1) ≡ false
-  unfolding any_dirty
-  any_dirty_more k d e = rw add-one (or_from (is_leaf k && dirty_in (get_or words k 0) f) (any_dirty words is_leaf f k) (right (is_leaf k) _ d) e)
+-- a search among the n words from a position on, as the code makes it; the words past the end are zero
+module _ (test : ℕ → Bool) (zero_fails : test 0 ≡ false) (words : List ℕ) (from : ℕ) (found : ℕ → Bool)
+    (none : found 0 ≡ false) (more : (n : ℕ) → found (suc n) ≡ (test (get_or words (from + n) 0) || found n)) where
+  searched : (n : ℕ) → list_any test (take n (drop from words)) ≡ found n
+  searched zero = sym none
+  searched (suc n) = ⊎_elim
+      (λ (lt : n < length rest). ap (λ m. list_any test (take m rest)) (sym (add-one n)) ∙ list_any_more test rest n 0 lt ∙ or_comm (list_any test (take n rest)) (test (get_or rest n 0))
+      ∙ ap (λ w. test w || list_any test (take n rest)) (get_or-drop from words n 0) ∙ ap (λ b. test (get_or words (from + n) 0) || b) (searched n) ∙ sym (more n))
+      (λ (le : length rest ≤ n). ap (list_any test) (take_all (suc n) rest (omega arith) ∙ sym (take_all n rest le)) ∙ searched n
+      ∙ sym (more n ∙ ap (λ b. b || found n) (ap test (sym (get_or-drop from words n 0) ∙ get_or_past rest n 0 le) ∙ zero_fails)))
+      (cases_lt n (length rest))
     where
-      right : (a b : Bool) → b ≡ false → (a && b) ≡ false
-      right true b q = q
-      right false b q = refl
+      rest : List ℕ
+      rest = drop from words
 
--- a search for a wired word in a leaf
+-- a dirty word among the leaves
+any_dirty_list : (words : List ℕ) (from f n : ℕ) → list_any (λ w. dirty_in w f) (take n (drop from words)) ≡ any_dirty words (leb from) f (from + n)
+unfolding any_dirty is_on
+any_dirty_list words from f n = searched (λ w. dirty_in w f) refl words from (λ m. any_dirty words (leb from) f (from + m))
+    (any_none words (leb from) f (from + 0) (λ k h. lt-leb from k (omega arith)))
+    (λ m. rw (add-suc from m) (ap (λ b. (b && dirty_in (get_or words (from + m) 0) f) || any_dirty words (leb from) f (from + m)) (le-leb from (from + m) (omega arith))))
+    n
+
+pub any_dirty_past : (words : List ℕ) (from f n : ℕ) → from + n ≡ length words → list_any (λ w. dirty_in w f) (drop from words) ≡ any_dirty words (leb from) f (from + n)
+any_dirty_past words from f n e = ap (list_any (λ w. dirty_in w f)) (sym (take_all n (drop from words) (omega (arith, length-drop from words)))) ∙ any_dirty_list words from f n
+
+-- a wired word in a leaf
 module _ (words : List ℕ) (from : ℕ) where
   pub any_wired_is : (n : ℕ) → Decides (any_wired words from n) ((k : ℕ) × (k < n) × (wired (get_or words (from + k) 0) ≡ true))
   unfolding any_wired
   any_wired_is n = Decides-below_or (λ k. wired (get_or words (from + k) 0)) (λ k. wired (get_or words (from + k) 0) ≡ true) (any_wired words from) (λ k. ((λ e. e), (λ e. e))) refl (λ _. refl) n
 
-  pub any_wired_none : any_wired words from 0 ≡ false
-  unfolding any_wired
-  any_wired_none = refl
-
-  pub any_wired_more : (n : ℕ) → wired (get_or words (from + n) 0) ≡ false → any_wired words from n ≡ false → any_wired words from (n + 1) ≡ false
-  unfolding any_wired
-  any_wired_more n w e = rw add-one (or_from (wired (get_or words (from + n) 0)) (any_wired words from n) w e)
+  any_wired_list : (n : ℕ) → list_any wired (take n (drop from words)) ≡ any_wired words from n
+  unfolding any_wired is_on
+  any_wired_list = searched wired refl words from (any_wired words from) refl (λ _. refl)
 
 -- the choice of a leaf
+pub holds_wired_is : (words : List ℕ) (t : ℕ) {b : Bool} → b ≡ list_any wired (take 512 (drop (512 * t) words)) → holds_wired words t ≡ b
+holds_wired_is words t e = sym (e ∙ any_wired_list words (512 * t) 512)
+
 module _ (words : List ℕ) (t : ℕ) where
   pub free_here : (n : ℕ) → holds_wired words t ≡ false → free_from words t n ≡ t
   unfolding free_from
@@ -103,3 +114,16 @@ pub tally_zero : (test : ℕ → Bool) (n : ℕ) → ((k : ℕ) → k < n → te
 unfolding tally
 tally_zero test zero none = refl
 tally_zero test (suc n) none = rw (none n (omega arith)) (omega (arith, tally_zero test n (λ k h. none k (omega arith))))
+
+-- a count over the numbers from a on, as the code makes it
+module _ (test : ℕ → Bool) (a : ℕ) where
+  counted : (n : ℕ) → count_by test (map (λ k. k) (range_with_len a n)) ≡ tally (λ k. leb a k && test k) (a + n)
+  unfolding tally
+  counted zero = sym (tally_zero (λ k. leb a k && test k) (a + 0) (λ k h. and_left (leb a k) (test k) (lt-leb a k (omega arith))))
+  counted (suc n) =
+      ap (λ m. count_by test (map (λ k. k) (range_with_len a m))) (sym (add-one n))
+      ∙ sum_by-map-range_with_len_more (λ k. cond (test k) 1 0) (λ k. k) a n (a + n) refl
+      ∙ rw (add-suc a n) (omega (arith, counted n, ap {B = ℕ} (λ b. cond (b && test (a + n)) 1 0) (le-leb a (a + n) (omega arith))))
+
+  pub count_by_tally : (n : ℕ) → count_by test (range_with_len a n) ≡ tally (λ k. leb a k && test k) (a + n)
+  count_by_tally n = ap (count_by test) (sym (map-id (range_with_len a n))) ∙ counted n

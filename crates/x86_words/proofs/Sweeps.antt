@@ -1,20 +1,19 @@
 -- Loops over the words: each comes to its end at the state that a definition gives by position.
-use Rattle.std.proofs.Common.{◌≡◌, ℕ, ◌+◌, ◌<◌, ◌≤◌, Bool, true, false, cond, ◌&&◌, ◌||◌, eqb, ltb, List, map, length, get_or, set, replicate, Decides, sym, refl, ap, ◌∙◌, ⊎_elim, arith}
+use Rattle.std.proofs.Common.{◌≡◌, ℕ, ◌+◌, ◌<◌, ◌≤◌, Bool, true, false, cond, ◌&&◌, ◌||◌, eqb, ltb, List, map, length, get_or, replicate, Decides, sym, refl, ap, ◌∙◌, ⊎_elim, arith}
 use Rattle.std.specs.List.{range_with_len}
-use Rattle.std.proofs.lemmas.Bool.{cases_eq, cases_lt, cases_Bool, cond-true, cond-false, lt-ltb, le-ltb, ltb-true, and_parts, and_from, and_left, eq-eqb, ne_eqb, or_cases, or_left, or_right}
+use Rattle.std.proofs.lemmas.Bool.{cases_eq, cases_lt, cond-true, cond-false, lt-ltb, le-ltb, ltb-true, and_parts, and_from, and_left, and_right, both_ways, false_from_ne_true, eq-eqb, ne_eqb, or_cases, or_left, or_right}
 use Rattle.std.proofs.lemmas.Bool.Decides.{same_from_decides, Decides-below_or}
 use Rattle.std.proofs.lemmas.List.FromFn.{fill_by_all, get_or-map-range_with_len, length-map-range_with_len}
-use Rattle.std.proofs.lemmas.List.{get_or-set_same, get_or-set_other, get_or-replicate, length-replicate, ext_get_or, get_or_past}
+use Rattle.std.proofs.lemmas.List.{get_or-set_other, get_or-replicate, length-replicate, ext_get_or, get_or_past}
+use Rattle.std.proofs.lemmas.Grind.{get_or-set_at}
+use Rattle.std.proofs.Math.Bool.{or_assoc, or-false, and-true}
 use Rattle.x86_words.specs.Words.{frame_of, dirty, dirty_in}
 use Rattle.x86_words.specs.State.{State, word_at, written, forgotten, any_dirty, emptied, mark_off, marks_off, wiped, started}
-
-get_d_set_here : {X : Type 0} (l : List X) (i k : ℕ) (a d : X) → k ≡ i → i < length l → get_or (set l i a) k d ≡ a
-get_d_set_here l i k a d e h = rw e (get_or-set_same l i a d h)
 
 pub same_state : {a b : List ℕ} {c d : List Bool} {x y : ℕ} → a ≡ b → c ≡ d → x ≡ y → ◌≡◌ {A = State} (record { words = a; marks = c; next = x }) (record { words = b; marks = d; next = y })
 same_state p q r = cc
 
-frame_low_is : (w : ℕ) → frame_of w < 256
+pub frame_low_is : (w : ℕ) → frame_of w < 256
 unfolding frame_of
 frame_low_is w = omega arith
 
@@ -33,7 +32,7 @@ module _ (st : State) (after : ℕ → ℕ) where
     pub rewriting_hit : (w : ℕ) → i < length u.words → w ≡ after i → Rewriting st (written u i w) after (i + 1)
     rewriting_hit w h e = record {
       done = λ k lt. ⊎_elim
-          (λ (q : k ≡ i). get_d_set_here u.words i k w 0 q h ∙ e ∙ ap after (sym q))
+          (λ (q : k ≡ i). get_or-set_at u.words i k w 0 q h ∙ e ∙ ap after (sym q))
           (λ (q : k ≡ i → ⊥). get_or-set_other u.words i k w 0 q ∙ r.done k (omega arith))
           (cases_eq k i);
       rest = λ k le. get_or-set_other u.words i k w 0 (omega arith) ∙ r.rest k (omega arith);
@@ -88,38 +87,16 @@ emptying_same st u p q same e = record {
   next = e.next;
 }
 
-or_false : (a : Bool) → (a || false) ≡ a
-or_false true = refl
-or_false false = refl
-
-any_none : (words : List ℕ) (p : ℕ → Bool) (f n : ℕ) → ((k : ℕ) → p k ≡ false) → any_dirty words p f n ≡ false
-any_none words p f n none = ⊎_elim
-    (λ (e : any_dirty words p f n ≡ true). let x = (any_dirty_is words p f n).0 e in absurd (clash (p x.0) (dirty_in (get_or words x.0 0) f) (none x.0) x.2))
-    (λ (e : any_dirty words p f n ≡ false). e)
-    (cases_Bool (any_dirty words p f n))
-  where
-    clash : (a b : Bool) → a ≡ false → (a && b) ≡ true → ⊥
-    clash true b e h = omega (arith, (let z : ◌≡◌ {A = ℕ} 0 1 = cc in z))
-    clash false b e h = omega (arith, (let z : ◌≡◌ {A = ℕ} 0 1 = cc in z))
+pub any_none : (words : List ℕ) (p : ℕ → Bool) (f n : ℕ) → ((k : ℕ) → k < n → p k ≡ false) → any_dirty words p f n ≡ false
+any_none words p f n none = false_from_ne_true (any_dirty words p f n) (λ e.
+    let x = (any_dirty_is words p f n).0 e in both_ways (p x.0) (none x.0 x.1) (and_parts (p x.0) _ x.2).0)
 
 pub emptying_none : (st : State) (p : ℕ → Bool) → ((k : ℕ) → p k ≡ false) → Emptying st st p
 emptying_none st p none = record {
   words = λ k. sym (cond-false (p k) 0 (word_at st k) (none k));
-  marks = λ f h. sym (ap (λ b. get_or st.marks f false || b) (any_none st.words p f 8192 none) ∙ or_false (get_or st.marks f false));
+  marks = λ f h. sym (ap (λ b. get_or st.marks f false || b) (any_none st.words p f 8192 (λ k _. none k)) ∙ or-false (get_or st.marks f false));
   next = refl;
 }
-
-or_assoc : (a b c : Bool) → ((a || b) || c) ≡ (a || (b || c))
-or_assoc true b c = refl
-or_assoc false b c = refl
-
-and_true : (a b : Bool) → b ≡ true → (a && b) ≡ a
-and_true true b e = e
-and_true false b e = refl
-
-and_false : (a b : Bool) → b ≡ false → (a && b) ≡ false
-and_false true b e = e
-and_false false b e = refl
 
 -- the set one position on: that position apart, it is the same
 module _ (gone : ℕ → Bool) (i : ℕ) where
@@ -137,7 +114,7 @@ module _ (gone : ℕ → Bool) (i : ℕ) where
 
   pub up_to_skip : gone i ≡ false → (k : ℕ) → up_to i gone k ≡ up_to (i + 1) gone k
   up_to_skip e k = ⊎_elim
-      (λ (q : k ≡ i). and_false (ltb k i) (gone k) (ap gone q ∙ e) ∙ sym (and_false (ltb k (i + 1)) (gone k) (ap gone q ∙ e)))
+      (λ (q : k ≡ i). and_right (ltb k i) (gone k) (ap gone q ∙ e) ∙ sym (and_right (ltb k (i + 1)) (gone k) (ap gone q ∙ e)))
       (λ (q : k ≡ i → ⊥). sym (up_to_other k q))
       (cases_eq k i)
 
@@ -173,14 +150,14 @@ module _ (st u : State) (gone : ℕ → Bool) (i : ℕ) (e : Emptying st u (up_t
   pub emptying_hit : i < 8192 → length u.words ≡ 8192 → length u.marks ≡ 256 → gone i ≡ true → Emptying st (forgotten u i) (up_to (i + 1) gone)
   emptying_hit h n m g = record {
     words = λ k. ⊎_elim
-        (λ (q : k ≡ i). get_d_set_here u.words i k 0 0 q (omega arith) ∙ sym (cond-true (up_to (i + 1) gone k) 0 (word_at st k) (ap (up_to (i + 1) gone) q ∙ up_to_here gone i g)))
+        (λ (q : k ≡ i). get_or-set_at u.words i k 0 0 q (omega arith) ∙ sym (cond-true (up_to (i + 1) gone k) 0 (word_at st k) (ap (up_to (i + 1) gone) q ∙ up_to_here gone i g)))
         (λ (q : k ≡ i → ⊥). get_or-set_other u.words i k 0 0 q ∙ e.words k ∙ ap (λ b. cond b 0 (word_at st k)) (sym (up_to_other gone i k q)))
         (cases_eq k i);
     marks = λ f lt. ⊎_elim
-        (λ (q : f ≡ F). get_d_set_here u.marks F f _ false q (omega (arith, frame_low_is w)) ∙ ap (λ g. get_or u.marks g false || dirty w) (sym q) ∙ joined f lt
-        (sym (and_true (dirty w) (eqb F f) (eq-eqb F f (sym q)))))
-        (λ (q : f ≡ F → ⊥). get_or-set_other u.marks F f _ false q ∙ sym (or_false (get_or u.marks f false)) ∙ joined f lt
-        (sym (and_false (dirty w) (eqb F f) (ne_eqb F f (λ t. q (sym t))))))
+        (λ (q : f ≡ F). get_or-set_at u.marks F f _ false q (omega (arith, frame_low_is w)) ∙ ap (λ g. get_or u.marks g false || dirty w) (sym q) ∙ joined f lt
+        (sym (ap (λ b. dirty w && b) (eq-eqb F f (sym q)) ∙ and-true (dirty w))))
+        (λ (q : f ≡ F → ⊥). get_or-set_other u.marks F f _ false q ∙ sym (or-false (get_or u.marks f false)) ∙ joined f lt
+        (sym (and_right (dirty w) (eqb F f) (ne_eqb F f (λ t. q (sym t))))))
         (cases_eq f F);
     next = e.next;
   }
@@ -209,7 +186,7 @@ emptying_all st u gone n m e = same_state
 module _ (gone : ℕ → Bool) (i : ℕ) where
   pub up_to_none : ((k : ℕ) → k < i → gone k ≡ false) → (k : ℕ) → up_to i gone k ≡ false
   up_to_none none k = ⊎_elim
-      (λ (lt : k < i). and_false (ltb k i) (gone k) (none k lt))
+      (λ (lt : k < i). and_right (ltb k i) (gone k) (none k lt))
       (λ (le : i ≤ k). and_left (ltb k i) (gone k) (le-ltb k i le))
       (cases_lt k i)
 
@@ -243,7 +220,7 @@ unmarking_none st = record { marks = λ f h. absurd (omega arith); words = refl;
 pub unmarking_more : (st u v : State) (i : ℕ) → Unmarking st u i → i < length u.marks → v ≡ mark_off u i → Unmarking st v (i + 1)
 unmarking_more st u v i r h q = rw q (record {
   marks = λ f lt. ⊎_elim
-      (λ (e : f ≡ i). get_d_set_here u.marks i f false false e h)
+      (λ (e : f ≡ i). get_or-set_at u.marks i f false false e h)
       (λ (e : f ≡ i → ⊥). get_or-set_other u.marks i f false false e ∙ r.marks f (omega arith))
       (cases_eq f i);
   words = r.words;

@@ -8,20 +8,41 @@
 --
 -- A word of a leaf names a frame by its page; a word of the three upper tables names the table below it,
 -- and table t lies at physical page 256 + t.
-use Rattle.std.specs.Prelude.{ℕ, ◌+◌, ◌-◌, ◌*◌, ◌/◌, ◌%◌, Bool, cond, not, ◌&&◌, ◌||◌, Some, None, Option, ◌==◌, nat_le, nat_lt}
+use Rattle.std.specs.Prelude.{ℕ, ◌+◌, ◌-◌, ◌*◌, ◌/◌, ◌%◌, ◌^◌, Bool, cond, not, ◌&&◌, ◌||◌, Some, None, Option, ◌==◌, nat_le, nat_lt}
+use Rattle.x86_words.specs.declared.word.Bit.{Bit}
+use Rattle.x86_words.specs.declared.word.Bit.TheVariants.{Present, Writable, User, Accessed, Dirty, Wired}
+
+-- the place of a bit in a word
+abbrev pub place_of : Bit → ℕ
+place_of Present = 0
+place_of Writable = 1
+place_of User = 2
+place_of Accessed = 5
+place_of Dirty = 6
+place_of Wired = 9
+
+-- a bit of a word is on; the word with that bit on, and with it off
+unfoldable pub is_on : Bit → ℕ → Bool
+is_on b w = w / 2 ^ place_of b % 2 == 1
+
+unfoldable pub put_on : Bit → ℕ → ℕ
+put_on b w = w + (1 - w / 2 ^ place_of b % 2) * 2 ^ place_of b
+
+unfoldable pub put_off : Bit → ℕ → ℕ
+put_off b w = w - w / 2 ^ place_of b % 2 * 2 ^ place_of b
 
 -- the tests of a word's bits
-unfoldable pub present : ℕ → Bool
-present w = w % 2 == 1
+abbrev pub present : ℕ → Bool
+present = is_on Present
 
-unfoldable pub writable : ℕ → Bool
-writable w = w / 2 % 2 == 1
+abbrev pub writable : ℕ → Bool
+writable = is_on Writable
 
-unfoldable pub dirty : ℕ → Bool
-dirty w = w / 64 % 2 == 1
+abbrev pub dirty : ℕ → Bool
+dirty = is_on Dirty
 
-unfoldable pub wired : ℕ → Bool
-wired w = w / 512 % 2 == 1
+abbrev pub wired : ℕ → Bool
+wired = is_on Wired
 
 -- the frame of a leaf word: the page field, of which a frame uses eight bits
 unfoldable pub frame_of : ℕ → ℕ
@@ -46,20 +67,20 @@ unfoldable pub points_to : ℕ → ℕ → Bool
 points_to w t = present w && w / 4096 == 256 + t
 
 -- a word with one bit put on or off
-unfoldable pub touched : ℕ → ℕ
-touched w = w + (1 - w / 32 % 2) * 32
+abbrev pub touched : ℕ → ℕ
+touched = put_on Accessed
 
-unfoldable pub dirtied : ℕ → ℕ
-dirtied w = w + (1 - w / 64 % 2) * 64
+abbrev pub dirtied : ℕ → ℕ
+dirtied = put_on Dirty
 
-unfoldable pub cleaned : ℕ → ℕ
-cleaned w = w - w / 64 % 2 * 64
+abbrev pub cleaned : ℕ → ℕ
+cleaned = put_off Dirty
 
-unfoldable pub read_only : ℕ → ℕ
-read_only w = w - w / 2 % 2 * 2
+abbrev pub read_only : ℕ → ℕ
+read_only = put_off Writable
 
-unfoldable pub unwired : ℕ → ℕ
-unwired w = w - w / 512 % 2 * 512
+abbrev pub unwired : ℕ → ℕ
+unwired = put_off Wired
 
 -- a leaf word after a hit: the hardware sets the accessed bit, and at a write the dirty bit
 abbrev pub hit_word : Bool → ℕ → ℕ

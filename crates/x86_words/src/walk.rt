@@ -5,6 +5,7 @@ ghost use Rattle.x86_words.specs.Words.{table_of};
 ghost use Rattle.x86_words.specs.Within.{Within};
 
 use crate::word::table_below;
+use slots::word::word_or;
 
 // The pages that a word covers in the PML4, in the PDPT and in a page directory.
 const ROOT_COVER: u64 = 512 * 512 * 512;
@@ -14,6 +15,7 @@ const ENTRY_COVER: u64 = 512 * 512;
 const DIRECTORY_COVER: u64 = 512;
 
 // The positions of the four words that a walk meets: in the PML4, the PDPT, a page directory and a leaf.
+// Their bounds are a clause and no ghost fields: the definitions would have to carry proofs in every walk.
 #[derive(Clone, Copy)]
 pub struct Walk {
     pub root: usize,
@@ -38,22 +40,16 @@ fn position(table: usize, linear: u64, cover: u64) -> usize
     512 * table + (linear / cover % 512) as usize
 }
 
-// The word at a position; past the tables there is none, which is as good as zero.
-pub fn word_at(words: &[u64], at: usize) -> u64
-    ensures { result ≡ slice_index words.now at }
-{
-    if at < words.len() { words[at] } else { 0 }
-}
-
 // The table that the word at a position points to.
 fn table_at(words: &[u64], at: usize) -> Option<usize>
     ensures is { result ≡ table_of (slice_index words.now at) }
     ensures bound { IfSome result (λ t. t < 16) }
 {
-    table_below(word_at(words, at))
+    table_below(word_or(words, at, 0))
 }
 
 // Walks from the PML4 down to the leaf word for a linear page.
+#[tactic(auto, unfolding(crate::specs::Walks::walk))]
 pub fn walk_tables(words: &[u64], linear: u64) -> Option<Walk>
     ensures is { result ≡ walk words.now linear }
     ensures bound { Within result }

@@ -1,49 +1,58 @@
 // The bits and fields of a table word.
-ghost use Rattle.std.specs.Prelude.{◌≡◌, ◌<◌, IfSome};
-ghost use Rattle.x86_words.specs.Words.{present, writable, dirty, wired as is_wired, frame_of, protection_of, leaf_word, pointer as pointer_to, table_of, points_to, touched, dirtied, cleaned, read_only, unwired, serves as lets, maps as maps_to};
+ghost use Rattle.std.specs.Prelude.{◌≡◌, ◌<◌, ◌^◌, IfSome};
+ghost use Rattle.x86_words.specs.Words.{place_of, is_on, put_on, put_off, frame_of, protection_of, leaf_word, pointer as pointer_to, table_of, points_to, serves as lets, maps as maps_to};
 
-pub const PRESENT: u64 = 1;
-
-pub const WRITABLE: u64 = 1 << 1;
-
-pub const USER: u64 = 1 << 2;
-
-pub const ACCESSED: u64 = 1 << 5;
-
-pub const DIRTY: u64 = 1 << 6;
-
-pub const WIRED: u64 = 1 << 9;
+// A bit, by its place in the word.
+#[derive(Clone, Copy, PartialEq, Eq, Debug)]
+pub enum Bit {
+    Present = 0,
+    Writable = 1,
+    User = 2,
+    Accessed = 5,
+    Dirty = 6,
+    Wired = 9,
+}
 
 // The physical page of table 0; the others follow.
 pub const FIRST_TABLE: u64 = 256;
 
 pub const TABLES: u64 = 16;
 
-pub fn is_present(word: u64) -> bool
-    ensures { result ≡ present word }
-{
-    word & PRESENT != 0
+impl Bit {
+    // The word with this bit alone.
+    fn mask(self) -> u64
+        ensures { result ≡ 2 ^ place_of self }
+    {
+        1 << self as u64
+    }
 }
 
-pub fn is_writable(word: u64) -> bool
-    ensures { result ≡ writable word }
+// Whether a bit of the word is on.
+#[tactic(auto, using(crate::proofs::Bits::test_bit), unfolding(crate::specs::Words::is_on))]
+pub fn has(word: u64, bit: Bit) -> bool
+    ensures { result ≡ is_on bit word }
 {
-    word & WRITABLE != 0
+    word & bit.mask() != 0
 }
 
-pub fn is_dirty(word: u64) -> bool
-    ensures { result ≡ dirty word }
+// The word with a bit on.
+#[tactic(auto, using(crate::proofs::Bits::or_bit), unfolding(crate::specs::Words::put_on))]
+pub fn with(word: u64, bit: Bit) -> u64
+    ensures { result ≡ put_on bit word }
 {
-    word & DIRTY != 0
+    word | bit.mask()
 }
 
-pub fn is_wired(word: u64) -> bool
-    ensures { result ≡ is_wired word }
+// The word with a bit off.
+#[tactic(auto, using(crate::proofs::Bits::and_not_bit), unfolding(crate::specs::Words::put_off))]
+pub fn without(word: u64, bit: Bit) -> u64
+    ensures { result ≡ put_off bit word }
 {
-    word & WIRED != 0
+    word & !bit.mask()
 }
 
 // The frame that a leaf word names.
+#[tactic(auto, using(std::proofs::lemmas::Nat::and_mask), unfolding(crate::specs::Words::frame_of))]
 pub fn frame(word: u64) -> u16
     ensures is { result ≡ frame_of word }
     ensures bound { result < 256 }
@@ -55,86 +64,67 @@ pub fn frame(word: u64) -> u16
 pub fn protection(word: u64) -> u8
     ensures { result ≡ protection_of word }
 {
-    if is_writable(word) { 3 } else { 1 }
+    if has(word, Bit::Writable) { 3 } else { 1 }
 }
 
 // The fresh word of a mapping.
+#[tactic(auto, unfolding(crate::specs::Words::leaf_word))]
 pub fn leaf(frame: u16, protection: u8, wired: bool) -> u64
     ensures { result ≡ leaf_word frame protection wired }
 {
-    let right = if protection == 3 { WRITABLE } else { 0 };
-    let mark = if wired { WIRED } else { 0 };
-    u64::from(frame) * 4096 + PRESENT + USER + right + mark
+    let right = if protection == 3 {
+        Bit::Writable.mask()
+    } else {
+        0
+    };
+    let mark = if wired { Bit::Wired.mask() } else { 0 };
+    u64::from(frame) * 4096 + Bit::Present.mask() + Bit::User.mask() + right + mark
 }
 
 // The word that points down to a table.
+#[tactic(auto, unfolding(crate::specs::Words::pointer))]
 pub fn pointer(table: usize) -> u64
     requires { table < 16 }
     ensures { result ≡ pointer_to table }
 {
-    (FIRST_TABLE + table as u64) * 4096 + PRESENT + WRITABLE + USER
+    (FIRST_TABLE + table as u64) * 4096
+        + Bit::Present.mask()
+        + Bit::Writable.mask()
+        + Bit::User.mask()
 }
 
 // The table that a word points to, if it is present and names one.
+#[tactic(auto, unfolding(crate::specs::Words::table_of))]
 pub fn table_below(word: u64) -> Option<usize>
     ensures is { result ≡ table_of word }
     ensures bound { IfSome result (λ t. t < 16) }
 {
     let page = word >> 12;
-    if is_present(word) && FIRST_TABLE <= page && page < FIRST_TABLE + TABLES {
+    if has(word, Bit::Present) && FIRST_TABLE <= page && page < FIRST_TABLE + TABLES {
         Some((page - FIRST_TABLE) as usize)
     } else {
         None
     }
 }
 
+#[tactic(auto, unfolding(crate::specs::Words::points_to))]
 pub fn points_to(word: u64, table: usize) -> bool
     requires { table < 16 }
     ensures { result ≡ points_to word table }
 {
-    is_present(word) && word >> 12 == FIRST_TABLE + table as u64
-}
-
-pub fn with_accessed(word: u64) -> u64
-    ensures { result ≡ touched word }
-{
-    word | ACCESSED
-}
-
-pub fn with_dirty(word: u64) -> u64
-    ensures { result ≡ dirtied word }
-{
-    word | DIRTY
-}
-
-pub fn without_dirty(word: u64) -> u64
-    ensures { result ≡ cleaned word }
-{
-    word - (word & DIRTY)
-}
-
-pub fn without_writable(word: u64) -> u64
-    ensures { result ≡ read_only word }
-{
-    word - (word & WRITABLE)
-}
-
-pub fn without_wired(word: u64) -> u64
-    ensures { result ≡ unwired word }
-{
-    word - (word & WIRED)
+    has(word, Bit::Present) && word >> 12 == FIRST_TABLE + table as u64
 }
 
 // Whether a leaf word lets a read or a write pass.
 pub fn serves(word: u64, write: bool) -> bool
     ensures { result ≡ lets word write }
 {
-    is_present(word) && (!write || is_writable(word))
+    has(word, Bit::Present) && (!write || has(word, Bit::Writable))
 }
 
 // Whether a leaf word maps the frame.
 pub fn maps(word: u64, wanted: u16) -> bool
     ensures { result ≡ maps_to word wanted }
 {
-    is_present(word) && frame(word) == wanted
+    has(word, Bit::Present) && frame(word) == wanted
 }

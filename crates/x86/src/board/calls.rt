@@ -7,9 +7,11 @@ ghost use Rattle.x86.specs.Reads.{state};
 
 use super::Board;
 use pmap::access::Access;
-use pmap::range::{fits_entry, fits_frame, fits_place};
+use pmap::frame::Frame;
+use pmap::place::Place;
+use pmap::range::fits_entry;
 use refusal::pmap::PmapRefusal;
-use x86_words::word::leaf;
+use x86_words::word::{Bit, leaf};
 
 impl Board {
     // The table words.
@@ -23,7 +25,7 @@ impl Board {
     pub fn next_leaf(&self) -> usize
         ensures { result ≡ (state self.now).next }
     {
-        self.next
+        self.next.number
     }
 
     // Holds exactly the given mapping at the place.
@@ -41,10 +43,11 @@ impl Board {
         if !fits_entry(space, page, frame, protection) {
             return Err(PmapRefusal::Range);
         }
-        if wired && self.is_crowded(space, page) {
+        let place = Place { space, page };
+        if wired && self.is_crowded(place) {
             return Err(PmapRefusal::WiredFull);
         }
-        self.install(space, page, leaf(frame, protection, wired));
+        self.install(place, leaf(frame, protection, wired));
         Ok(())
     }
 
@@ -53,10 +56,8 @@ impl Board {
         ensures answer { result ≡ at_place space page tt }
         ensures after { state self.new ≡ placed space page (removed (state self.old) space page) (state self.old) }
     {
-        if !fits_place(space, page) {
-            return Err(PmapRefusal::Range);
-        }
-        self.remove_at(space, page);
+        let place = Place::new(space, page)?;
+        self.remove_at(place);
         Ok(())
     }
 
@@ -65,10 +66,8 @@ impl Board {
         ensures answer { result ≡ at_place space page tt }
         ensures after { state self.new ≡ placed space page (rewritten_at read_only (state self.old) space page) (state self.old) }
     {
-        if !fits_place(space, page) {
-            return Err(PmapRefusal::Range);
-        }
-        self.lower_at(space, page);
+        let place = Place::new(space, page)?;
+        self.clear_bit(place, Bit::Writable);
         Ok(())
     }
 
@@ -77,9 +76,7 @@ impl Board {
         ensures answer { result ≡ at_frame frame tt }
         ensures after { state self.new ≡ framed frame (dropped (state self.old) frame) (state self.old) }
     {
-        if !fits_frame(frame) {
-            return Err(PmapRefusal::Range);
-        }
+        let frame = Frame::new(frame)?;
         self.drop_all(frame);
         Ok(())
     }
@@ -89,10 +86,8 @@ impl Board {
         ensures answer { result ≡ at_place space page tt }
         ensures after { state self.new ≡ placed space page (rewritten_at unwired (state self.old) space page) (state self.old) }
     {
-        if !fits_place(space, page) {
-            return Err(PmapRefusal::Range);
-        }
-        self.unwire_at(space, page);
+        let place = Place::new(space, page)?;
+        self.clear_bit(place, Bit::Wired);
         Ok(())
     }
 
@@ -101,29 +96,23 @@ impl Board {
         ensures answer { result ≡ at_place space page (access_answer (state self.old) space page write) }
         ensures after { state self.new ≡ placed space page (accessed (state self.old) space page write) (state self.old) }
     {
-        if !fits_place(space, page) {
-            return Err(PmapRefusal::Range);
-        }
-        Ok(self.access_at(space, page, write))
+        let place = Place::new(space, page)?;
+        Ok(self.access_at(place, write))
     }
 
     // The frame, the protection and the wired mark held at the place, or none.
     pub fn find(&self, space: u8, page: u32) -> Result<Option<(u16, u8, bool)>, PmapRefusal>
         ensures { result ≡ at_place space page (found (state self.now) space page) }
     {
-        if !fits_place(space, page) {
-            return Err(PmapRefusal::Range);
-        }
-        Ok(self.find_at(space, page))
+        let place = Place::new(space, page)?;
+        Ok(self.find_at(place))
     }
 
     // Whether the frame is modified.
     pub fn modified(&self, frame: u16) -> Result<bool, PmapRefusal>
         ensures { result ≡ at_frame frame (modified_in (state self.now) frame) }
     {
-        if !fits_frame(frame) {
-            return Err(PmapRefusal::Range);
-        }
+        let frame = Frame::new(frame)?;
         Ok(self.is_modified(frame))
     }
 
@@ -132,9 +121,7 @@ impl Board {
         ensures answer { result ≡ at_frame frame tt }
         ensures after { state self.new ≡ framed frame (unmarked (state self.old) frame) (state self.old) }
     {
-        if !fits_frame(frame) {
-            return Err(PmapRefusal::Range);
-        }
+        let frame = Frame::new(frame)?;
         self.unmark(frame);
         Ok(())
     }

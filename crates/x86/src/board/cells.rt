@@ -5,7 +5,7 @@ ghost use Rattle.x86_words.specs.State.{word_at, written, rewritten, merged, for
 ghost use Rattle.x86.specs.Reads.{state};
 
 use super::Board;
-use x86_words::word::{frame, is_dirty, with_accessed};
+use x86_words::word::{Bit, frame, has, with};
 
 impl Board {
     pub(super) fn word(&self, at: usize) -> u64
@@ -27,7 +27,7 @@ impl Board {
         ensures { state self.new ≡ merged (state self.old) word }
     {
         let at = usize::from(frame(word));
-        self.marks[at] = self.marks[at] | is_dirty(word);
+        self.marks[at] |= has(word, Bit::Dirty);
     }
 
     // Empties a word, its dirty bit first merged.
@@ -46,6 +46,6 @@ impl Board {
         ensures { state self.new ≡ rewritten (state self.old) at touched }
     {
         let word = self.word(at);
-        self.put_word(at, with_accessed(word));
+        self.put_word(at, with(word, Bit::Accessed));
     }
 }

@@ -9,14 +9,14 @@ use Rattle.x86.proofs.board.Board.clean_all.Goals as goal
 pub loop-at-init : goal.loop-at-init
 loop-at-init c =
     let st = state c.args.self.now in
-    rewriting_none st (unmarked_word st c.args.wanted) 3072 (unmarked_low st c.args.wanted)
+    rewriting_none st (unmarked_word st c.args.wanted.number) 3072 (unmarked_low st c.args.wanted.number)
 
 pub loop-at-preserved : goal.loop-at-preserved
 loop-at-preserved c =
     let st = state c.args.self.now in
     let u = state c.loop-at.self in
     let i = c.loop-at.at in
-    let f = c.args.wanted in
+    let f = c.args.wanted.number in
     rewriting_step st u (state c.clean_at.new.self) (unmarked_word st f) i (cleaned (word_at u i)) (maps (word_at u i) f) c.loop-at.invariant (omega arith)
     (unmarked_here st f i (word_at u i) (omega arith) (c.loop-at.invariant.rest i (omega arith))) c.clean_at.ensures
 
@@ -24,6 +24,6 @@ pub returns : goal.returns
 unfolding bits_off
 returns c =
     let st = state c.args.self.now in
-    let f = c.args.wanted in
+    let f = c.args.wanted.number in
     same_state (rewriting_all st (unmarked_word st f) (state c.loop-at.self) c.loop-at.at c.loop-at.invariant (omega arith) (λ k h l. absurd (omega arith)))
     c.loop-at.invariant.marks c.loop-at.invariant.next

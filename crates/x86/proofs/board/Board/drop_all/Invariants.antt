@@ -4,4 +4,4 @@ use Rattle.x86_words.proofs.Sweeps.{Emptying, up_to}
 use Rattle.x86.proofs.board.Board.drop_all.Given as goal
 
 abbrev pub invariant-loop-at : goal.invariant-loop-at
-invariant-loop-at l = Emptying (state l.initial.self) (state l.self) (up_to l.at (mapping (state l.initial.self) l.wanted))
+invariant-loop-at l = Emptying (state l.initial.self) (state l.self) (up_to l.at (mapping (state l.initial.self) l.wanted.number))

@@ -1,20 +1,14 @@
-use Rattle.std.proofs.Common.{true, sym, arith}
+use Rattle.std.proofs.Common.{refl, ◌∙◌, arith}
+use Rattle.std.proofs.lemmas.List.{with_items_is}
+use Rattle.std.proofs.lemmas.List.Edits.{fill_by_more}
+use Rattle.std.proofs.lemmas.List.FromFn.{fill_by_all}
 use Rattle.x86_words.specs.State.{start_word, wiped}
-use Rattle.x86.specs.Reads.{state}
-use Rattle.x86_words.proofs.Sweeps.{rewriting_none, rewriting_step, rewriting_all, same_state}
+use Rattle.x86_words.proofs.Sweeps.{same_state}
 use Rattle.x86.proofs.board.Board.start_words.Goals as goal
 
-pub loop-at-init : goal.loop-at-init
-loop-at-init c = rewriting_none (state c.args.self.now) start_word 0 (λ k h. absurd (omega arith))
-
 pub loop-at-preserved : goal.loop-at-preserved
-loop-at-preserved c =
-    rewriting_step (state c.args.self.now) (state c.loop-at.self) (state c.put_word.new.self) start_word c.loop-at.at c.start_word.result true c.loop-at.invariant (omega arith)
-    (sym c.start_word.ensures) c.put_word.ensures
+loop-at-preserved c = rw c.start_word.ensures (fill_by_more start_word c.loop-at.word-items c.loop-at.at 0 (omega arith) c.loop-at.invariant)
 
 pub returns : goal.returns
 unfolding wiped
-returns c =
-    let st = state c.args.self.now in
-    same_state (rewriting_all st start_word (state c.loop-at.self) c.loop-at.at c.loop-at.invariant (omega arith) (λ k h l. absurd (omega arith)))
-    c.loop-at.invariant.marks c.loop-at.invariant.next
+returns c = same_state (with_items_is c.args.self.now.words c.loop-at.word-items (omega arith) ∙ fill_by_all start_word c.loop-at.word-items 8192 0 (omega arith) (λ k h. c.loop-at.invariant k (omega arith))) refl refl
