@@ -1,21 +1,19 @@
 // Reads and writes.
 ghost use Rattle.std.specs.Prelude.{◌≡◌};
 ghost use Rattle.calls.specs.declared.Call.TheVariants.{Read as ReadCall, Write as WriteCall};
-ghost use Rattle.memory_meaning.specs.Ready.{memory_state, Ready};
-ghost use Rattle.memory_meaning.specs.Leaves.{Serves};
 ghost use Rattle.memory_meaning.specs.Replies.{read_reply, wrote_reply};
+ghost use Rattle.memory.specs.Whole.{Serving, Whole};
 
-use crate::memory::Memory;
+use crate::parts::Parts;
 use pmap::interface::Pmap;
 use refusal::memory::MemoryRefusal;
 use rules::answer::{Reading, Report};
 
-impl<P: Pmap> Memory<P> {
+impl<P: Pmap> Parts<P> {
     // The word of the place's object page.
     pub fn read_page(&mut self, space: u8, page: u32) -> Result<Reading, MemoryRefusal>
-        requires kept { P.kept self.old.pmap }
-        requires ready { Ready (P.view self.old.pmap) (memory_state (P.view self.old.pmap) self.old.tables self.old.counts) }
-        ensures serves { Serves (P.view self.old.pmap) (P.view self.new.pmap) (memory_state (P.view self.old.pmap) self.old.tables self.old.counts) (memory_state (P.view self.new.pmap) self.new.tables self.new.counts) (ReadCall space page) (read_reply result) }
+        requires { Whole P.view P.kept self.old }
+        ensures serves { Serving P.view self.old self.new (ReadCall space page) (read_reply result) }
         ensures kept { P.kept self.new.pmap }
     {
         let reached = self.reach(space, page, false)?;
@@ -28,9 +26,8 @@ impl<P: Pmap> Memory<P> {
 
     // Writes a word to the place's object page.
     pub fn write_page(&mut self, space: u8, page: u32, word: u32) -> Result<Report, MemoryRefusal>
-        requires kept { P.kept self.old.pmap }
-        requires ready { Ready (P.view self.old.pmap) (memory_state (P.view self.old.pmap) self.old.tables self.old.counts) }
-        ensures serves { Serves (P.view self.old.pmap) (P.view self.new.pmap) (memory_state (P.view self.old.pmap) self.old.tables self.old.counts) (memory_state (P.view self.new.pmap) self.new.tables self.new.counts) (WriteCall space page word) (wrote_reply result) }
+        requires { Whole P.view P.kept self.old }
+        ensures serves { Serving P.view self.old self.new (WriteCall space page word) (wrote_reply result) }
         ensures kept { P.kept self.new.pmap }
     {
         let reached = self.reach(space, page, true)?;

@@ -1,19 +1,17 @@
 // The eight calls, each carried out or refused.
 ghost use Rattle.std.specs.Prelude.{◌≡◌};
-ghost use Rattle.memory_meaning.specs.Ready.{memory_state, Ready};
-ghost use Rattle.memory_meaning.specs.Leaves.{Serves};
+ghost use Rattle.memory.specs.Whole.{Serving, Whole};
 
-use crate::memory::Memory;
+use crate::parts::Parts;
 use calls::Call;
 use pmap::interface::Pmap;
 use rules::answer::{Answer, Reply};
 
-impl<P: Pmap> Memory<P> {
+impl<P: Pmap> Parts<P> {
     // One call, not counted.
     pub(crate) fn serve(&mut self, call: Call) -> Reply
-        requires kept { P.kept self.old.pmap }
-        requires ready { Ready (P.view self.old.pmap) (memory_state (P.view self.old.pmap) self.old.tables self.old.counts) }
-        ensures serves { Serves (P.view self.old.pmap) (P.view self.new.pmap) (memory_state (P.view self.old.pmap) self.old.tables self.old.counts) (memory_state (P.view self.new.pmap) self.new.tables self.new.counts) call result }
+        requires { Whole P.view P.kept self.old }
+        ensures serves { Serving P.view self.old self.new call result }
         ensures kept { P.kept self.new.pmap }
     {
         match call {

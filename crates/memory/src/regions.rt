@@ -5,11 +5,10 @@ ghost use Rattle.calls.specs.declared.Call.TheVariants.{Map, Unmap, Protect};
 ghost use Rattle.rules.specs.Lists.{first as first_of};
 ghost use Rattle.rules.specs.Refusals.{begins, fits_map, region_refusal};
 ghost use Rattle.rules.specs.Good.{RegionFits};
-ghost use Rattle.memory_meaning.specs.Ready.{memory_state, Ready};
-ghost use Rattle.memory_meaning.specs.Leaves.{Serves};
 ghost use Rattle.memory_meaning.specs.Replies.{done_reply, FreeAt, Restricts};
+ghost use Rattle.memory.specs.Whole.{state, Serving, Whole};
 
-use crate::memory::Memory;
+use crate::parts::Parts;
 use memory_meaning::pages::{lower_pages, remove_pages};
 use pmap::interface::Pmap;
 use pmap::range::{PAGES, fits_place};
@@ -52,7 +51,7 @@ fn restrict_region<P: Pmap>(
     lower_pages(pmap, region.space, region.first, region.count)
 }
 
-impl<P: Pmap> Memory<P> {
+impl<P: Pmap> Parts<P> {
     // Adds a region.
     pub(crate) fn map_region(
         &mut self,
@@ -63,8 +62,8 @@ impl<P: Pmap> Memory<P> {
         offset: u8,
         protection: u8,
     ) -> Result<(), MemoryRefusal>
-        requires { (P.kept self.old.pmap) × (Ready (P.view self.old.pmap) (memory_state (P.view self.old.pmap) self.old.tables self.old.counts)) }
-        ensures serves { Serves (P.view self.old.pmap) (P.view self.new.pmap) (memory_state (P.view self.old.pmap) self.old.tables self.old.counts) (memory_state (P.view self.new.pmap) self.new.tables self.new.counts) (Map space page count object offset protection) (done_reply result) }
+        requires { Whole P.view P.kept self.old }
+        ensures serves { Serving P.view self.old self.new (Map space page count object offset protection) (done_reply result) }
         ensures kept { P.kept self.new.pmap }
     {
         if !fits_map(space, page, count, object, offset, protection) {
@@ -89,7 +88,7 @@ impl<P: Pmap> Memory<P> {
 
     // The position of the region that begins at a page, if it has no wired place.
     fn region_free(&self, space: u8, page: u32) -> Result<usize, MemoryRefusal>
-        ensures { MatchResult result (λ at. FreeAt (memory_state (P.view self.now.pmap) self.now.tables self.now.counts) space page at) (λ e. region_refusal (memory_state (P.view self.now.pmap) self.now.tables self.now.counts) (first_of (begins space page) (memory_state (P.view self.now.pmap) self.now.tables self.now.counts).regions) ≡ Some e) }
+        ensures { MatchResult result (λ at. FreeAt (state P.view self.now) space page at) (λ e. region_refusal (state P.view self.now) (first_of (begins space page) (state P.view self.now).regions) ≡ Some e) }
     {
         let Some(at) = self.tables.region_at(space, page) else {
             return Err(MemoryRefusal::NoRegion);
@@ -102,8 +101,8 @@ impl<P: Pmap> Memory<P> {
 
     // Removes a region and the mappings of its pages.
     pub(crate) fn unmap_region(&mut self, space: u8, page: u32) -> Result<(), MemoryRefusal>
-        requires { (P.kept self.old.pmap) × (Ready (P.view self.old.pmap) (memory_state (P.view self.old.pmap) self.old.tables self.old.counts)) }
-        ensures serves { Serves (P.view self.old.pmap) (P.view self.new.pmap) (memory_state (P.view self.old.pmap) self.old.tables self.old.counts) (memory_state (P.view self.new.pmap) self.new.tables self.new.counts) (Unmap space page) (done_reply result) }
+        requires { Whole P.view P.kept self.old }
+        ensures serves { Serving P.view self.old self.new (Unmap space page) (done_reply result) }
         ensures kept { P.kept self.new.pmap }
     {
         if !fits_place(space, page) {
@@ -123,8 +122,8 @@ impl<P: Pmap> Memory<P> {
         page: u32,
         protection: u8,
     ) -> Result<(), MemoryRefusal>
-        requires { (P.kept self.old.pmap) × (Ready (P.view self.old.pmap) (memory_state (P.view self.old.pmap) self.old.tables self.old.counts)) }
-        ensures serves { Serves (P.view self.old.pmap) (P.view self.new.pmap) (memory_state (P.view self.old.pmap) self.old.tables self.old.counts) (memory_state (P.view self.new.pmap) self.new.tables self.new.counts) (Protect space page protection) (done_reply result) }
+        requires { Whole P.view P.kept self.old }
+        ensures serves { Serving P.view self.old self.new (Protect space page protection) (done_reply result) }
         ensures kept { P.kept self.new.pmap }
     {
         if !fits_protect(space, page, protection) {

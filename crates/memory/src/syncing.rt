@@ -1,12 +1,11 @@
 // Sync: the modified pages of an object go to the backing store.
 ghost use Rattle.std.specs.Prelude.{MatchResult};
 ghost use Rattle.calls.specs.declared.Call.TheVariants.{Sync};
-ghost use Rattle.memory_meaning.specs.Ready.{memory_state, Ready};
-ghost use Rattle.memory_meaning.specs.Leaves.{Serves};
 ghost use Rattle.memory_meaning.specs.Storing.{OnePageEach};
 ghost use Rattle.memory_meaning.specs.Replies.{synced_reply, StoresObject};
+ghost use Rattle.memory.specs.Whole.{Serving, Whole};
 
-use crate::memory::Memory;
+use crate::parts::Parts;
 use memory_meaning::pages::store_pages;
 use pmap::interface::Pmap;
 use refusal::memory::MemoryRefusal;
@@ -22,11 +21,11 @@ fn store_object<P: Pmap>(object: u8, pmap: &mut P, tables: &mut Tables) -> Resul
     store_pages(&tables.lies, object, pmap, &tables.words, &mut tables.store)
 }
 
-impl<P: Pmap> Memory<P> {
+impl<P: Pmap> Parts<P> {
     // Stores the modified pages of an object, and says how many there were.
     pub(crate) fn sync_object(&mut self, object: u8) -> Result<u32, MemoryRefusal>
-        requires { (P.kept self.old.pmap) × (Ready (P.view self.old.pmap) (memory_state (P.view self.old.pmap) self.old.tables self.old.counts)) }
-        ensures serves { Serves (P.view self.old.pmap) (P.view self.new.pmap) (memory_state (P.view self.old.pmap) self.old.tables self.old.counts) (memory_state (P.view self.new.pmap) self.new.tables self.new.counts) (Sync object) (synced_reply result) }
+        requires { Whole P.view P.kept self.old }
+        ensures serves { Serving P.view self.old self.new (Sync object) (synced_reply result) }
         ensures kept { P.kept self.new.pmap }
     {
         if object >= 8 {

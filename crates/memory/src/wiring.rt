@@ -1,11 +1,10 @@
 // Wiring a place.
 ghost use Rattle.std.specs.Prelude.{◌≡◌};
 ghost use Rattle.calls.specs.declared.Call.TheVariants.{Wire as WireCall};
-ghost use Rattle.memory_meaning.specs.Ready.{memory_state, Ready};
-ghost use Rattle.memory_meaning.specs.Leaves.{Serves};
 ghost use Rattle.memory_meaning.specs.Replies.{wired_reply};
+ghost use Rattle.memory.specs.Whole.{Serving, Whole};
 
-use crate::memory::Memory;
+use crate::parts::Parts;
 use pmap::interface::Pmap;
 use pmap::range::fits_place;
 use refusal::memory::MemoryRefusal;
@@ -16,12 +15,11 @@ use tables::lookups::object_page;
 // how many places may be wired at once
 const WIRED_PLACES: usize = 8;
 
-impl<P: Pmap> Memory<P> {
+impl<P: Pmap> Parts<P> {
     // Brings the place's object page in and enters a wired mapping of it.
     pub fn wire_place(&mut self, space: u8, page: u32) -> Result<Wiring, MemoryRefusal>
-        requires kept { P.kept self.old.pmap }
-        requires ready { Ready (P.view self.old.pmap) (memory_state (P.view self.old.pmap) self.old.tables self.old.counts) }
-        ensures serves { Serves (P.view self.old.pmap) (P.view self.new.pmap) (memory_state (P.view self.old.pmap) self.old.tables self.old.counts) (memory_state (P.view self.new.pmap) self.new.tables self.new.counts) (WireCall space page) (wired_reply result) }
+        requires { Whole P.view P.kept self.old }
+        ensures serves { Serving P.view self.old self.new (WireCall space page) (wired_reply result) }
         ensures kept { P.kept self.new.pmap }
     {
         if !fits_place(space, page) {

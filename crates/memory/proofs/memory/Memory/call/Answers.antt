@@ -1,51 +1,45 @@
 use Rattle.std.proofs.Common.{sym, ap, ◌∙◌, subst}
 use Rattle.rules.specs.Rules.{with_counts}
-use Rattle.memory_meaning.specs.Ready.{memory_state, Ready}
-use Rattle.memory_meaning.proofs.Counted.{few_stored, called_answer, called_state, called_view, called_ready, limit_answer, limit_state, limit_view}
+use Rattle.memory_meaning.specs.Ready.{Ready}
+use Rattle.memory_meaning.proofs.AccessReady.{may_say}
+use Rattle.memory_meaning.proofs.Counted.{few_stored, called_state, called_ready}
+use Rattle.memory.specs.Whole.{seen, state}
 use Rattle.memory.proofs.memory.Memory.call.Goals as goal
 
-pub returns-then-counts-ge-CALL_LIMIT : goal.returns-then-counts-ge-CALL_LIMIT
-returns-then-counts-ge-CALL_LIMIT g c =
+pub returns-then-counts-ge-CALL_LIMIT-clause-may : goal.returns-then-counts-ge-CALL_LIMIT-clause-may
+returns-then-counts-ge-CALL_LIMIT-clause-may g c =
     let v = g.P.Pmap.view in
-    let m = c.args.self.now in
-    let s = memory_state (v m.pmap) m.tables m.counts in
-    let full = c.if-counts-ge-CALL_LIMIT.true in
-    record {
-      answer = limit_answer (v m.pmap) s c.args.call full;
-      state = limit_state (v m.pmap) s c.args.call full;
-      view = limit_view (v m.pmap) s c.args.call full;
-      ready = c.requires.ready;
-      kept = c.requires.kept;
-    }
+    rw (← c.self.view_is) (may_say (seen v c.self.inside.parts) (state v c.self.inside.parts) c.args.call c.self.invariant.ready)
 
-pub added-self-requires : goal.added-self-requires
-added-self-requires g c =
+pub added-self-inside-requires : goal.added-self-inside-requires
+added-self-inside-requires g c =
     let v = g.P.Pmap.view in
-    let m = c.args.self.now in
+    let m = c.self.inside.parts in
     let e = c.serve-reply.new.self in
-    let s = memory_state (v m.pmap) m.tables m.counts in (
-      c.requires.ready.bounded,
-      (
-        c.if-counts-ge-CALL_LIMIT.false,
-        few_stored (v m.pmap) (v e.pmap) s (memory_state (v e.pmap) e.tables e.counts) c.args.call c.serve-reply.result c.requires.ready c.if-counts-ge-CALL_LIMIT.false c.serve-reply.ensures.serves,
-      ),
-    )
-
-pub returns : goal.returns
-returns g c =
-    let v = g.P.Pmap.view in
-    let m = c.args.self.now in
-    let e = c.serve-reply.new.self in
-    let s = memory_state (v m.pmap) m.tables m.counts in
-    let t = memory_state (v e.pmap) e.tables e.counts in
-    let r = c.serve-reply.result in
+    let ready = c.self.invariant.ready in
     let less = c.if-counts-ge-CALL_LIMIT.false in
-    let served = c.serve-reply.ensures.serves in
-    let is = ap (with_counts t) c.added-self.ensures in
+    (ready.bounded, (less, few_stored (seen v m) (seen v e) (state v m) (state v e) c.args.call c.serve-reply.result ready less c.serve-reply.ensures.serves))
+
+pub invariant_of-self : goal.invariant_of-self
+invariant_of-self g c =
+    let v = g.P.Pmap.view in
+    let m = c.self.inside.parts in
+    let e = c.serve-reply.new.self in
     record {
-      answer = called_answer (v m.pmap) (v e.pmap) s t c.args.call r c.requires.ready less served;
-      state = is ∙ called_state (v m.pmap) (v e.pmap) s t c.args.call r c.requires.ready less served;
-      view = called_view (v m.pmap) (v e.pmap) s t c.args.call r c.requires.ready less served;
-      ready = subst (Ready (v e.pmap)) (sym is) (called_ready (v m.pmap) (v e.pmap) s t c.args.call r c.requires.ready less served);
       kept = c.serve-reply.ensures.kept;
+      ready = subst (Ready (seen v e)) (sym (ap (with_counts (state v e)) c.added-self-inside.ensures))
+          (called_ready (seen v m) (seen v e) (state v m) (state v e) c.args.call c.serve-reply.result c.self.invariant.ready c.if-counts-ge-CALL_LIMIT.false c.serve-reply.ensures.serves);
     }
+
+pub returns-clause-state : goal.returns-clause-state
+returns-clause-state g c =
+    let v = g.P.Pmap.view in
+    let m = c.self.inside.parts in
+    let e = c.serve-reply.new.self in
+    rw (← c.self.view_is) (ap (with_counts (state v e)) c.added-self-inside.ensures
+    ∙ called_state (seen v m) (seen v e) (state v m) (state v e) c.args.call c.serve-reply.result c.self.invariant.ready c.if-counts-ge-CALL_LIMIT.false c.serve-reply.ensures.serves)
+
+pub returns-clause-may : goal.returns-clause-may
+returns-clause-may g c =
+    let v = g.P.Pmap.view in
+    rw (← c.self.view_is) (may_say (seen v c.self.inside.parts) (state v c.self.inside.parts) c.args.call c.self.invariant.ready)

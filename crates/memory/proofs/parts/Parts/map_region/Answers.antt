@@ -1,7 +1,7 @@
 use Rattle.std.proofs.Common.{◌<◌, length, vec_items, sym, ◌∙◌, arith}
 use Rattle.memory_meaning.specs.Ready.{memory_state}
 use Rattle.memory_meaning.proofs.Serving.{map_served}
-use Rattle.memory.proofs.memory.Memory.map_region.Goals as goal
+use Rattle.memory.proofs.parts.Parts.map_region.Goals as goal
 
 pub returns : goal.returns
 returns g c =
@@ -13,5 +13,5 @@ returns g c =
           (memory_state v c.add_region.new.self m.counts)
           (sym c.fits_map.ensures ∙ c.if-not-fits_map.false) (sym c.overlaps.ensures ∙ c.if-overlaps.false) few
           (c.add_region.ensures v.modified m.counts);
-      kept = c.requires.0;
+      kept = c.requires.kept;
     }

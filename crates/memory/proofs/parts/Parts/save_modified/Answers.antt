@@ -1,7 +1,7 @@
 use Rattle.std.proofs.Common.{sym, ap, ◌∙◌}
 use Rattle.tables.specs.Held.{with_dirty, saved_to}
-use Rattle.memory_meaning.specs.Ready.{memory_state}
-use Rattle.memory.proofs.memory.Memory.save_modified.Goals as goal
+use Rattle.memory.specs.Whole.{state}
+use Rattle.memory.proofs.parts.Parts.save_modified.Goals as goal
 
 pub returns : goal.returns
 returns g c =
@@ -12,7 +12,7 @@ returns g c =
     record {
       saves = record {
         was = sym (sym c.in_ok-modified.ensures.1 ∙ c.if-not-branch.false);
-        state = c.save.ensures w.modified m.counts ∙ ap (with_dirty (saved_to (memory_state (v m.pmap) m.tables m.counts) c.args.frame)) un.marks;
+        state = c.save.ensures w.modified m.counts ∙ ap (with_dirty (saved_to (state v m) c.args.frame)) un.marks;
         held = un.held;
       };
       kept = c.in_ok-clear_modified.ensures.kept;

@@ -1,7 +1,8 @@
 use Rattle.std.proofs.Common.{sym, refl, ◌∙◌}
 use Rattle.memory_meaning.specs.Ready.{memory_state}
 use Rattle.memory_meaning.proofs.Serving.{unwire_served}
-use Rattle.memory.proofs.memory.Memory.unwire_place.Goals as goal
+use Rattle.memory.specs.Whole.{state}
+use Rattle.memory.proofs.parts.Parts.unwire_place.Goals as goal
 
 pub returns : goal.returns
 returns g c =
@@ -10,7 +11,7 @@ returns g c =
     let w = v c.unwire.new.self in
     let done = c.in_ok-unwire.ensures in
     record {
-      serves = unwire_served (v m.pmap) w (memory_state (v m.pmap) m.tables m.counts) c.args.space c.args.page
+      serves = unwire_served (v m.pmap) w (state v m) c.args.space c.args.page
           (memory_state w c.remove_wired.new.self m.counts)
           done.meaning.0 (sym c.is_wired.ensures ∙ c.if-not-is_wired.false) done.meaning.1 refl
           (c.remove_wired.ensures w.modified m.counts);

@@ -1,7 +1,8 @@
 use Rattle.std.proofs.Common.{true}
 use Rattle.memory_meaning.specs.Ready.{memory_state}
 use Rattle.memory_meaning.proofs.AccessRules.{reached_low, write_served}
-use Rattle.memory.proofs.memory.Memory.write_page.Goals as goal
+use Rattle.memory.specs.Whole.{state}
+use Rattle.memory.proofs.parts.Parts.write_page.Goals as goal
 
 pub write_word-requires : goal.write_word-requires
 write_word-requires g c =
@@ -9,7 +10,7 @@ write_word-requires g c =
     let m = c.args.self.now in
     let e = c.reach.new.self in
     let r = c.in_ok-reached.ensures.reaches in
-    reached_low (v m.pmap) (v e.pmap) (memory_state (v m.pmap) m.tables m.counts) (memory_state (v e.pmap) e.tables e.counts) c.args.space c.args.page c.in_ok-reached.reached.frame true c.in_ok-reached.reached.report c.requires.ready.good r.0 r.1
+    reached_low (v m.pmap) (v e.pmap) (state v m) (state v e) c.args.space c.args.page c.in_ok-reached.reached.frame true c.in_ok-reached.reached.report c.requires.ready.good r.0 r.1
 
 pub returns : goal.returns
 returns g c =
@@ -18,7 +19,7 @@ returns g c =
     let e = c.reach.new.self in
     let r = c.in_ok-reached.ensures.reaches in
     record {
-      serves = write_served (v m.pmap) (v e.pmap) (memory_state (v m.pmap) m.tables m.counts) (memory_state (v e.pmap) e.tables e.counts) c.args.space c.args.page
+      serves = write_served (v m.pmap) (v e.pmap) (state v m) (state v e) c.args.space c.args.page
           (memory_state (v e.pmap) c.write_word.new.self e.counts) c.in_ok-reached.reached.frame c.args.word c.in_ok-reached.reached.report r.0 r.1 (c.write_word.ensures (v e.pmap).modified e.counts);
       kept = c.in_ok-reached.ensures.kept;
     }

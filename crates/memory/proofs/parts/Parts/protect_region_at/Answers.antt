@@ -3,7 +3,8 @@ use Rattle.rules.specs.Refusals.{begins}
 use Rattle.tables.proofs.Positions.{place_inside}
 use Rattle.memory_meaning.specs.Ready.{memory_state}
 use Rattle.memory_meaning.proofs.Serving.{region_fits_is, protect_served}
-use Rattle.memory.proofs.memory.Memory.protect_region_at.Goals as goal
+use Rattle.memory.specs.Whole.{state}
+use Rattle.memory.proofs.parts.Parts.protect_region_at.Goals as goal
 
 pub index-requires : goal.index-requires
 index-requires g c =
@@ -12,8 +13,8 @@ index-requires g c =
 pub restrict_region-requires : goal.restrict_region-requires
 restrict_region-requires g c =
     let m = c.args.self.now in
-    let fit = region_fits_is (memory_state (g.P.Pmap.view m.pmap) m.tables m.counts) c.args.space c.args.page c.in_ok-at.at c.index.result.now c.in_ok-at.ensures.found c.index.ensures c.requires.1.good in
-    (c.requires.0, fit)
+    let fit = region_fits_is (state g.P.Pmap.view m) c.args.space c.args.page c.in_ok-at.at c.index.result.now c.in_ok-at.ensures.found c.index.ensures c.requires.ready.good in
+    (c.requires.kept, fit)
 
 pub protect_region-requires : goal.protect_region-requires
 protect_region-requires g c =
@@ -25,7 +26,7 @@ returns g c =
     let m = c.args.self.now in
     let w = v c.restrict_region.new.pmap in
     record {
-      serves = protect_served (v m.pmap) w (memory_state (v m.pmap) m.tables m.counts) (memory_state w c.protect_region.new.self m.counts)
+      serves = protect_served (v m.pmap) w (state v m) (memory_state w c.protect_region.new.self m.counts)
           c.args.space c.args.page c.in_ok-at.at c.index.result.now c.in_ok-at.ensures c.index.ensures refl
           c.args.protection (sym c.fits_protect.ensures ∙ c.if-not-fits_protect.false) c.in_ok-restrict_region.ensures.restricted (c.protect_region.ensures w.modified m.counts c.index.result.now);
       kept = c.in_ok-restrict_region.ensures.kept;

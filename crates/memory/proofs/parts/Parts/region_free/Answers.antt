@@ -1,9 +1,9 @@
 use Rattle.std.proofs.Common.{vec_items, sym, ◌∙◌, arith}
 use Rattle.rules.specs.Refusals.{begins}
 use Rattle.tables.proofs.Positions.{place_inside}
-use Rattle.memory_meaning.specs.Ready.{memory_state}
 use Rattle.memory_meaning.proofs.Serving.{region_none, region_wired, region_free}
-use Rattle.memory.proofs.memory.Memory.region_free.Goals as goal
+use Rattle.memory.specs.Whole.{state}
+use Rattle.memory.proofs.parts.Parts.region_free.Goals as goal
 
 pub index-requires : goal.index-requires
 index-requires g c =
@@ -12,16 +12,16 @@ index-requires g c =
 pub returns-in_default : goal.returns-in_default
 returns-in_default g c =
     let m = c.args.self.now in
-    region_none (memory_state (g.P.Pmap.view m.pmap) m.tables m.counts) c.args.space c.args.page (sym c.region_at.ensures ∙ c.in_default.is)
+    region_none (state g.P.Pmap.view m) c.args.space c.args.page (sym c.region_at.ensures ∙ c.in_default.is)
 
 pub returns-then-has_wired : goal.returns-then-has_wired
 returns-then-has_wired g c =
     let m = c.args.self.now in
-    region_wired (memory_state (g.P.Pmap.view m.pmap) m.tables m.counts) c.args.space c.args.page c.in-Some.at c.index.result.now
+    region_wired (state g.P.Pmap.view m) c.args.space c.args.page c.in-Some.at c.index.result.now
     (sym c.region_at.ensures ∙ c.in-Some.is) c.index.ensures (sym c.has_wired.ensures ∙ c.if-has_wired.true)
 
 pub returns : goal.returns
 returns g c =
     let m = c.args.self.now in
-    region_free (memory_state (g.P.Pmap.view m.pmap) m.tables m.counts) c.args.space c.args.page c.in-Some.at c.index.result.now
+    region_free (state g.P.Pmap.view m) c.args.space c.args.page c.in-Some.at c.index.result.now
     (sym c.region_at.ensures ∙ c.in-Some.is) c.index.ensures (sym c.has_wired.ensures ∙ c.if-has_wired.false)
