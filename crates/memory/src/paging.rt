@@ -38,7 +38,7 @@ impl<P: Pmap> Memory<P> {
         self.pmap.drop_frame(frame)?;
         let stored = self.save_modified(frame)?;
         self.tables.release(at);
-        Ok(Evicted::Page {
+        Ok(Evicted {
             object: (page / 256) as u8,
             index: (page % 256) as u8,
             stored,
@@ -56,7 +56,7 @@ impl<P: Pmap> Memory<P> {
             return Ok(Brought {
                 frame,
                 loaded: false,
-                evicted: Evicted::Nothing,
+                evicted: None,
             });
         }
         let used = self.tables.queue.len();
@@ -66,7 +66,7 @@ impl<P: Pmap> Memory<P> {
             return Ok(Brought {
                 frame,
                 loaded: true,
-                evicted: Evicted::Nothing,
+                evicted: None,
             });
         }
         let Some(at) = self.tables.victim() else {
@@ -78,7 +78,7 @@ impl<P: Pmap> Memory<P> {
         Ok(Brought {
             frame,
             loaded: true,
-            evicted,
+            evicted: Some(evicted),
         })
     }
 }

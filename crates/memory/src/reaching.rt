@@ -12,7 +12,7 @@ use pmap::access::Access;
 use pmap::interface::Pmap;
 use pmap::range::fits_place;
 use refusal::memory::MemoryRefusal;
-use rules::answer::{Evicted, Kind, Report};
+use rules::answer::{Kind, Report};
 use rules::region::Region;
 use tables::lookups::object_page;
 
@@ -77,7 +77,7 @@ impl<P: Pmap> Memory<P> {
             frame,
             report: Report {
                 kind: Kind::Hit,
-                evicted: Evicted::Nothing,
+                evicted: None,
             },
         })
     }

@@ -14,16 +14,17 @@ pub enum Kind {
 
 // The object page that made room, and whether its word went to the backing store.
 #[derive(Clone, Copy, PartialEq, Eq, Debug)]
-pub enum Evicted {
-    Nothing,
-    Page { object: u8, index: u8, stored: bool },
+pub struct Evicted {
+    pub object: u8,
+    pub index: u8,
+    pub stored: bool,
 }
 
 // What an accepted read or write did.
 #[derive(Clone, Copy, PartialEq, Eq, Debug)]
 pub struct Report {
     pub kind: Kind,
-    pub evicted: Evicted,
+    pub evicted: Option<Evicted>,
 }
 
 // A read's report and its word.
@@ -37,7 +38,7 @@ pub struct Reading {
 #[derive(Clone, Copy, PartialEq, Eq, Debug)]
 pub struct Wiring {
     pub loaded: bool,
-    pub evicted: Evicted,
+    pub evicted: Option<Evicted>,
 }
 
 #[derive(Clone, Copy, PartialEq, Eq, Debug)]

@@ -1,4 +1,4 @@
-use Rattle.std.proofs.Common.{◌≡◌, ◌<◌, ◌≤◌, length, vec_items, vec_len, sym, ap, ◌∙◌, subst, arith}
+use Rattle.std.proofs.Common.{◌≡◌, ◌<◌, ◌≤◌, length, Some, vec_items, vec_len, sym, ap, ◌∙◌, subst, arith}
 use Rattle.std.proofs.lemmas.List.{get_or_read_under}
 use Rattle.rules.specs.Paging.{load}
 use Rattle.tables.proofs.Positions.{place_inside}
@@ -87,7 +87,7 @@ returns g c =
     let last = memory_state (v e.pmap) c.load-2.new.self e.counts in
     let mid = memory_state (v e.pmap) e.tables e.counts in
     record {
-      brings = subst (λ z. Brings (v m.pmap) (v e.pmap) s last c.args.x z _ c.in_ok-evicted.evicted) (sym frame)
+      brings = subst (λ z. Brings (v m.pmap) (v e.pmap) s last c.args.x z _ (Some c.in_ok-evicted.evicted)) (sym frame)
           (brings_victim (v m.pmap) s c.args.x c.requires.1.0 c.requires.1.1 (sym c.in_default.ensures) full c.in-Some-victim.at here
           (v e.pmap) mid last c.in_ok-evicted.evicted c.in_ok-evicted.ensures.evicts
           (c.load-2.ensures (v e.pmap).modified e.counts ∙ ap (load mid c.args.x) frame));
