@@ -1,5 +1,9 @@
 // What the calls of the memory answer.
+ghost use Rattle.std.specs.Prelude.{Some};
+ghost use Rattle.rules.specs.Kinds.{kind_words};
+
 use refusal::memory::MemoryRefusal;
+use std::fmt;
 
 // How an accepted read or write went.
 #[derive(Clone, Copy, PartialEq, Eq, Debug)]
@@ -10,6 +14,18 @@ pub enum Kind {
     Soft,
     // the object page was loaded
     Hard,
+}
+
+impl fmt::Display for Kind {
+    ghost output = { λ kind. Some (kind_words kind) };
+
+    fn fmt<W: fmt::Write>(&self, f: &mut fmt::Formatter<W>) -> fmt::Result {
+        f.write_str(match self {
+            Kind::Hit => "hit",
+            Kind::Soft => "soft fault",
+            Kind::Hard => "hard fault",
+        })
+    }
 }
 
 // The object page that made room, and whether its word went to the backing store.
