@@ -29,7 +29,7 @@ impl<P: Pmap> Memory<P> {
         if counts.calls >= CALL_LIMIT {
             return Err(MemoryRefusal::CallLimit);
         }
-        let reply = self.parts.serve(call);
+        let reply = self.serve(call);
         self.parts.counts = added(&counts, &reply);
         reply
     }

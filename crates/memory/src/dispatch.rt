@@ -1,18 +1,17 @@
 // The eight calls, each carried out or refused.
 ghost use Rattle.std.specs.Prelude.{◌≡◌};
-ghost use Rattle.memory.specs.Whole.{Serving, Whole};
+ghost use Rattle.memory.specs.Whole.{Serving};
 
-use crate::parts::Parts;
+use crate::memory::Memory;
 use calls::Call;
 use pmap::interface::Pmap;
 use rules::answer::{Answer, Reply};
+use rules::region::Region;
 
-impl<P: Pmap> Parts<P> {
+impl<P: Pmap> Memory<P> {
     // One call, not counted.
     pub(crate) fn serve(&mut self, call: Call) -> Reply
-        requires { Whole P.view P.kept self.old }
-        ensures serves { Serving P.view self.old self.new call result }
-        ensures kept { P.kept self.new.pmap }
+        ensures { Serving P.view self.old self.new call result }
     {
         match call {
             Call::Map {
@@ -23,7 +22,14 @@ impl<P: Pmap> Parts<P> {
                 offset,
                 protection,
             } => {
-                self.map_region(space, page, count, object, offset, protection)?;
+                self.map_region(Region {
+                    space,
+                    first: page,
+                    count,
+                    object,
+                    offset,
+                    protection,
+                })?;
                 Ok(Answer::Done)
             }
             Call::Unmap { space, page } => {

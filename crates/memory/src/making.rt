@@ -33,20 +33,10 @@ impl<P: Pmap> Memory<P> {
             return Err(NotMade::NoMemory(pmap));
         };
         pmap.clear();
-        let counts = Counts {
-            calls: 0,
-            refused: 0,
-            hits: 0,
-            soft: 0,
-            hard: 0,
-            loads: 0,
-            evicted: 0,
-            stored: 0,
-        };
         let parts = Parts {
             pmap,
             tables,
-            counts,
+            counts: Counts::default(),
         };
         Ok(Memory { parts })
     }

@@ -1,5 +1,6 @@
 // A memory over a pmap. Clauses see its parts, which keep what `Whole` says.
-ghost use Rattle.std.specs.Prelude.{◌≡◌};
+ghost use Rattle.std.specs.Prelude.{◌≡◌, ◌<◌};
+ghost use Rattle.rules.specs.State.{is_modified as modified_in};
 ghost use Rattle.memory.specs.Whole.{state};
 
 use crate::parts::Parts;
@@ -30,5 +31,16 @@ impl<P: Pmap> Memory<P> {
         ensures { result ≡ (state P.view self.now).counts }
     {
         self.parts.counts
+    }
+
+    // Whether object page `x` is modified.
+    pub fn is_modified(&self, x: usize) -> bool
+        requires { x < 2048 }
+        ensures { result ≡ modified_in (state P.view self.now) x }
+    {
+        let Some(frame) = self.parts.tables.frame_of(x) else {
+            return false;
+        };
+        self.parts.pmap.modified(frame) == Ok(true)
     }
 }

@@ -43,7 +43,7 @@ impl<P: Pmap> Parts<P> {
         self.pmap.drop_frame(frame)?;
         let stored = self.save_modified(frame)?;
         self.tables.release(at);
-        Ok(Evicted::Page {
+        Ok(Evicted {
             object: (page / 256) as u8,
             index: (page % 256) as u8,
             stored,
@@ -63,7 +63,7 @@ impl<P: Pmap> Parts<P> {
             return Ok(Brought {
                 frame,
                 loaded: false,
-                evicted: Evicted::Nothing,
+                evicted: None,
             });
         }
         let used = self.tables.queue.len();
@@ -73,19 +73,17 @@ impl<P: Pmap> Parts<P> {
             return Ok(Brought {
                 frame,
                 loaded: true,
-                evicted: Evicted::Nothing,
+                evicted: None,
             });
         }
-        let Some(at) = self.tables.victim() else {
-            return Err(MemoryRefusal::NoFrame);
-        };
+        let at = self.tables.victim().ok_or(MemoryRefusal::NoFrame)?;
         let frame = self.tables.queue[at];
         let evicted = self.evict(at)?;
         self.tables.load(x, frame);
         Ok(Brought {
             frame,
             loaded: true,
-            evicted,
+            evicted: Some(evicted),
         })
     }
 }

@@ -11,29 +11,24 @@ use crate::parts::Parts;
 use memory_meaning::outcome::Reached;
 use pmap::access::Access;
 use pmap::interface::Pmap;
+use pmap::place::Place;
 use pmap::range::fits_place;
 use refusal::memory::MemoryRefusal;
-use rules::answer::{Evicted, Kind, Report};
+use rules::answer::{Kind, Report};
 use rules::region::Region;
 use tables::lookups::object_page;
 
 impl<P: Pmap> Parts<P> {
     // Brings the object page in, enters the place's mapping, and repeats the access.
-    fn fault(
-        &mut self,
-        region: Region,
-        space: u8,
-        page: u32,
-        write: bool,
-    ) -> Result<Reached, MemoryRefusal>
+    fn fault(&mut self, region: Region, at: Place, write: bool) -> Result<Reached, MemoryRefusal>
         requires whole { Whole P.view P.kept self.old }
-        requires place { fits_place space page ≡ true }
-        requires covers { covering self.old.tables.regions.items space page ≡ Some region }
+        requires covers { covering self.old.tables.regions.items at.space at.page ≡ Some region }
         requires right { write ≡ true → region.protection ≡ 3 }
-        requires missed { serves ((seen P.view self.old).held space page) write ≡ false }
-        ensures reaches { MatchResult result (λ x. Reaching P.view self.old self.new space page write x) (λ e. Roomless P.view self.old self.new (page_in region page) e) }
+        requires missed { serves ((seen P.view self.old).held at.space at.page) write ≡ false }
+        ensures reaches { MatchResult result (λ x. Reaching P.view self.old self.new at.space at.page write x) (λ e. Roomless P.view self.old self.new (page_in region at.page) e) }
         ensures kept { P.kept self.new.pmap }
     {
+        let Place { space, page } = at;
         let brought = self.bring(object_page(&region, page))?;
         self.pmap
             .enter(space, page, brought.frame, region.protection, false)?;
@@ -70,13 +65,13 @@ impl<P: Pmap> Parts<P> {
             return Err(MemoryRefusal::ReadOnly);
         }
         let Access::Hit(frame) = self.pmap.access(space, page, write)? else {
-            return self.fault(region, space, page, write);
+            return self.fault(region, Place { space, page }, write);
         };
         Ok(Reached {
             frame,
             report: Report {
                 kind: Kind::Hit,
-                evicted: Evicted::Nothing,
+                evicted: None,
             },
         })
     }

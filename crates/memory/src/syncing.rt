@@ -3,9 +3,9 @@ ghost use Rattle.std.specs.Prelude.{MatchResult};
 ghost use Rattle.calls.specs.declared.Call.TheVariants.{Sync};
 ghost use Rattle.memory_meaning.specs.Storing.{OnePageEach};
 ghost use Rattle.memory_meaning.specs.Replies.{synced_reply, StoresObject};
-ghost use Rattle.memory.specs.Whole.{Serving, Whole};
+ghost use Rattle.memory.specs.Whole.{Serving};
 
-use crate::parts::Parts;
+use crate::memory::Memory;
 use memory_meaning::pages::store_pages;
 use pmap::interface::Pmap;
 use refusal::memory::MemoryRefusal;
@@ -21,17 +21,15 @@ fn store_object<P: Pmap>(object: u8, pmap: &mut P, tables: &mut Tables) -> Resul
     store_pages(&tables.lies, object, pmap, &tables.words, &mut tables.store)
 }
 
-impl<P: Pmap> Parts<P> {
+impl<P: Pmap> Memory<P> {
     // Stores the modified pages of an object, and says how many there were.
     pub(crate) fn sync_object(&mut self, object: u8) -> Result<u32, MemoryRefusal>
-        requires { Whole P.view P.kept self.old }
-        ensures serves { Serving P.view self.old self.new (Sync object) (synced_reply result) }
-        ensures kept { P.kept self.new.pmap }
+        ensures { Serving P.view self.old self.new (Sync object) (synced_reply result) }
     {
         if object >= 8 {
             return Err(MemoryRefusal::Range);
         }
-        let stored = store_object(object, &mut self.pmap, &mut self.tables)?;
+        let stored = store_object(object, &mut self.parts.pmap, &mut self.parts.tables)?;
         Ok(stored)
     }
 }

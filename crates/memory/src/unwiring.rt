@@ -1,28 +1,26 @@
 // Unwire: a wired place is wired no more.
 ghost use Rattle.calls.specs.declared.Call.TheVariants.{Unwire};
 ghost use Rattle.memory_meaning.specs.Replies.{done_reply};
-ghost use Rattle.memory.specs.Whole.{Serving, Whole};
+ghost use Rattle.memory.specs.Whole.{Serving};
 
-use crate::parts::Parts;
+use crate::memory::Memory;
 use pmap::interface::Pmap;
 use pmap::range::fits_place;
 use refusal::memory::MemoryRefusal;
 
-impl<P: Pmap> Parts<P> {
+impl<P: Pmap> Memory<P> {
     // Takes the wired mark off at a place.
     pub(crate) fn unwire_place(&mut self, space: u8, page: u32) -> Result<(), MemoryRefusal>
-        requires { Whole P.view P.kept self.old }
-        ensures serves { Serving P.view self.old self.new (Unwire space page) (done_reply result) }
-        ensures kept { P.kept self.new.pmap }
+        ensures { Serving P.view self.old self.new (Unwire space page) (done_reply result) }
     {
         if !fits_place(space, page) {
             return Err(MemoryRefusal::Range);
         }
-        if !self.tables.is_wired(space, page) {
+        if !self.parts.tables.is_wired(space, page) {
             return Err(MemoryRefusal::NotWired);
         }
-        self.pmap.unwire(space, page)?;
-        self.tables.remove_wired(space, page);
+        self.parts.pmap.unwire(space, page)?;
+        self.parts.tables.remove_wired(space, page);
         Ok(())
     }
 }

@@ -1,11 +1,12 @@
-use Rattle.std.proofs.Common.{◌≡◌, ◌<◌, ◌≤◌, length, vec_items, vec_len, sym, ap, ◌∙◌, subst, arith}
+use Rattle.std.proofs.Common.{◌≡◌, ◌<◌, length, Some, vec_items, vec_len, sym, ap, ◌∙◌, subst, arith}
 use Rattle.std.proofs.lemmas.List.{get_or_read_under}
+use Rattle.std.specs.Result.{result_ok}
+use Rattle.std.proofs.lemmas.Result.{err_from_is_err_and}
 use Rattle.rules.specs.Paging.{load}
-use Rattle.tables.proofs.Positions.{place_inside}
-use Rattle.rules.specs.Refusals.{free}
 use Rattle.memory_meaning.specs.Ready.{memory_state, Brings}
-use Rattle.memory_meaning.proofs.Bringing.{brings_unused, brings_none, brings_victim, victim_low, victim_owner, less_used}
+use Rattle.memory_meaning.proofs.Bringing.{brings_unused, brings_none, brings_victim, victim_low, less_used}
 use Rattle.memory.specs.Whole.{state}
+use Rattle.memory.proofs.Victims.{none_left, all_used, inside, frame_low, owned_low}
 use Rattle.memory.proofs.parts.Parts.bring.Goals as goal
 
 pub returns-then-used-from : goal.returns-then-used-from
@@ -22,36 +23,33 @@ returns-then-used-from g c =
       kept = c.requires.kept;
     }
 
-pub returns-in_default-victim : goal.returns-in_default-victim
-returns-in_default-victim g c =
+pub returns-in_err-at : goal.returns-in_err-at
+returns-in_err-at g c =
     let v = g.P.Pmap.view in
     let m = c.args.self.now in
-    let full : m.tables.frames ≤ length (vec_items m.tables.queue) = omega (arith, c.len-used.ensures, m.tables.queue.ok.0, c.if-used-from.false, c.from.ensures) in
+    let p = err_from_is_err_and c.from_residual.result c.from_residual.ensures.1 in
+    let gone = none_left _ _ _ _ c.ok_or.ensures.value c.in_err-at.was in
+    let full = all_used v m c.args.x _ _ c.from.ensures c.len-used.ensures c.if-used-from.false in
     record {
-      brings = brings_none (v m.pmap) (state v m) c.args.x c.requires.good c.requires.page (sym c.in_default.ensures) full (sym c.in_default-victim.ensures);
+      brings = rw (p.1, p.2, gone.1) (brings_none (v m.pmap) (state v m) c.args.x c.requires.good c.requires.page (sym c.in_default.ensures) full (sym c.victim.ensures ∙ gone.0));
       kept = c.requires.kept;
     }
 
 pub index-frame-requires : goal.index-frame-requires
 index-frame-requires g c =
-    let m = c.args.self.now in
-    omega (arith, place_inside (free (vec_items m.tables.wired)) (vec_items m.tables.queue) c.in-Some-victim.at (sym c.in-Some-victim.ensures), m.tables.queue.ok.0)
+    inside g.P.Pmap.view c.args.self.now c.args.x _ _ c.from.ensures c.len-used.ensures c.if-used-from.false c.requires.good c.requires.page (sym c.in_default.ensures)
+    c.in_ok-at.at (sym c.victim.ensures ∙ c.ok_or.ensures.ok_part ∙ ap result_ok c.in_ok-at.was)
 
 pub evict-requires : goal.evict-requires
 evict-requires g c =
-    let v = g.P.Pmap.view in
     let m = c.args.self.now in
-    let s = state v m in
-    let here = sym c.in-Some-victim.ensures in
-    let full : m.tables.frames ≤ length (vec_items m.tables.queue) = omega (arith, c.len-used.ensures, m.tables.queue.ok.0, c.if-used-from.false, c.from.ensures) in
-    let inside = place_inside (free (vec_items m.tables.wired)) (vec_items m.tables.queue) c.in-Some-victim.at here in
-    let fits : c.in-Some-victim.at < vec_len m.tables.queue = omega (arith, inside, m.tables.queue.ok.0) in
+    let here = sym c.victim.ensures ∙ c.ok_or.ensures.ok_part ∙ ap result_ok c.in_ok-at.was in
     record {
       kept = c.requires.kept;
       first = here;
-      inside = fits;
-      frame = victim_low (v m.pmap) s c.args.x c.requires.good c.requires.page (sym c.in_default.ensures) full c.in-Some-victim.at here;
-      owner = victim_owner (v m.pmap) s c.args.x c.requires.good c.requires.page (sym c.in_default.ensures) full c.in-Some-victim.at here;
+      inside = inside g.P.Pmap.view m c.args.x _ _ c.from.ensures c.len-used.ensures c.if-used-from.false c.requires.good c.requires.page (sym c.in_default.ensures) c.in_ok-at.at here;
+      frame = frame_low g.P.Pmap.view m c.args.x _ _ c.from.ensures c.len-used.ensures c.if-used-from.false c.requires.good c.requires.page (sym c.in_default.ensures) c.in_ok-at.at here;
+      owner = owned_low g.P.Pmap.view m c.args.x _ _ c.from.ensures c.len-used.ensures c.if-used-from.false c.requires.good c.requires.page (sym c.in_default.ensures) c.in_ok-at.at here;
     }
 
 pub load-requires-2 : goal.load-requires-2
@@ -59,13 +57,12 @@ load-requires-2 g c =
     let v = g.P.Pmap.view in
     let m = c.args.self.now in
     let s = state v m in
-    let here = sym c.in-Some-victim.ensures in
-    let full : m.tables.frames ≤ length (vec_items m.tables.queue) = omega (arith, c.len-used.ensures, m.tables.queue.ok.0, c.if-used-from.false, c.from.ensures) in
-    let inside = place_inside (free (vec_items m.tables.wired)) (vec_items m.tables.queue) c.in-Some-victim.at here in
-    let fits : c.in-Some-victim.at < vec_len m.tables.queue = omega (arith, inside, m.tables.queue.ok.0) in
-    let frame = get_or_read_under (vec_items m.tables.queue) c.in-Some-victim.at (vec_len m.tables.queue) c.index-frame.result.now 0 c.index-frame.ensures fits m.tables.queue.ok.0 in
-    let low = victim_low (v m.pmap) s c.args.x c.requires.good c.requires.page (sym c.in_default.ensures) full c.in-Some-victim.at here in
-    let less = less_used (v m.pmap) s c.args.x c.requires.good c.requires.page (sym c.in_default.ensures) full c.in-Some-victim.at here in
+    let here = sym c.victim.ensures ∙ c.ok_or.ensures.ok_part ∙ ap result_ok c.in_ok-at.was in
+    let full = all_used v m c.args.x _ _ c.from.ensures c.len-used.ensures c.if-used-from.false in
+    let fits = inside v m c.args.x _ _ c.from.ensures c.len-used.ensures c.if-used-from.false c.requires.good c.requires.page (sym c.in_default.ensures) c.in_ok-at.at here in
+    let frame = get_or_read_under (vec_items m.tables.queue) c.in_ok-at.at (vec_len m.tables.queue) c.index-frame.result.now 0 c.index-frame.ensures fits m.tables.queue.ok.0 in
+    let low = victim_low (v m.pmap) s c.args.x c.requires.good c.requires.page (sym c.in_default.ensures) full c.in_ok-at.at here in
+    let less = less_used (v m.pmap) s c.args.x c.requires.good c.requires.page (sym c.in_default.ensures) full c.in_ok-at.at here in
     let queue = ap (λ z. length z.queue) c.in_ok-evicted.ensures.evicts.state in
     (c.requires.page, (omega (arith, frame, low), omega (arith, less, queue, c.evict.new.self.tables.queue.ok.0)))
 
@@ -75,16 +72,15 @@ returns g c =
     let m = c.args.self.now in
     let e = c.evict.new.self in
     let s = state v m in
-    let here = sym c.in-Some-victim.ensures in
-    let full : m.tables.frames ≤ length (vec_items m.tables.queue) = omega (arith, c.len-used.ensures, m.tables.queue.ok.0, c.if-used-from.false, c.from.ensures) in
-    let inside = place_inside (free (vec_items m.tables.wired)) (vec_items m.tables.queue) c.in-Some-victim.at here in
-    let fits : c.in-Some-victim.at < vec_len m.tables.queue = omega (arith, inside, m.tables.queue.ok.0) in
-    let frame = get_or_read_under (vec_items m.tables.queue) c.in-Some-victim.at (vec_len m.tables.queue) c.index-frame.result.now 0 c.index-frame.ensures fits m.tables.queue.ok.0 in
+    let here = sym c.victim.ensures ∙ c.ok_or.ensures.ok_part ∙ ap result_ok c.in_ok-at.was in
+    let full = all_used v m c.args.x _ _ c.from.ensures c.len-used.ensures c.if-used-from.false in
+    let fits = inside v m c.args.x _ _ c.from.ensures c.len-used.ensures c.if-used-from.false c.requires.good c.requires.page (sym c.in_default.ensures) c.in_ok-at.at here in
+    let frame = get_or_read_under (vec_items m.tables.queue) c.in_ok-at.at (vec_len m.tables.queue) c.index-frame.result.now 0 c.index-frame.ensures fits m.tables.queue.ok.0 in
     let last = memory_state (v e.pmap) c.load-2.new.self e.counts in
     let mid = state v e in
     record {
-      brings = subst (λ z. Brings (v m.pmap) (v e.pmap) s last c.args.x z _ c.in_ok-evicted.evicted) (sym frame)
-          (brings_victim (v m.pmap) s c.args.x c.requires.good c.requires.page (sym c.in_default.ensures) full c.in-Some-victim.at here
+      brings = subst (λ z. Brings (v m.pmap) (v e.pmap) s last c.args.x z _ (Some c.in_ok-evicted.evicted)) (sym frame)
+          (brings_victim (v m.pmap) s c.args.x c.requires.good c.requires.page (sym c.in_default.ensures) full c.in_ok-at.at here
           (v e.pmap) mid last c.in_ok-evicted.evicted c.in_ok-evicted.ensures.evicts
           (c.load-2.ensures (v e.pmap).modified e.counts ∙ ap (load mid c.args.x) frame));
       kept = c.in_ok-evicted.ensures.kept;

@@ -21,7 +21,6 @@ fault-requires g c =
     let cov = sym c.in-Some.ensures in
     record {
       whole = record { kept = c.in_ok-frame.ensures.kept; ready = ready_same (v m.pmap) w m.tables m.counts same c.requires.ready };
-      place = told.0;
       covers = cov;
       right = λ t. right_is c.in-Some.region (covered s c.args.space c.args.page c.in-Some.region c.requires.ready.good cov).fits
           (λ o. ⊎_elim (λ y. y.1 o) (λ n. both_ways c.args.write n t) c.else-write.either);
