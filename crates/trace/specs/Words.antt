@@ -15,3 +15,7 @@ content_words (Err e) = codes " refused " ++ (decimal (file_code e).number ++ (c
 -- the number of a record, and then what stands there
 abbrev pub entry_words : Entry → List ℕ
 entry_words e = decimal e.number ++ content_words e.content
+
+-- of a file that is turned away, only the number of its refusal
+abbrev pub refused_text : FileRefusal → List ℕ
+refused_text e = codes "file " ++ (decimal (file_code e).number ++ codes "\n")
