@@ -4,7 +4,7 @@ use Rattle.refusal.specs.declared.code.Code.{Code}
 use Rattle.refusal.specs.declared.file.FileRefusal.{FileRefusal}
 use Rattle.refusal.specs.Codes.{file_code, memory_code}
 use Rattle.refusal.specs.Letters.{letter}
-use Rattle.trace.specs.declared.record.Record.{Record}
+use Rattle.calls.specs.declared.Call.{Call}
 use Rattle.trace.specs.declared.record.Entry.{Entry}
 use Rattle.rules.specs.declared.answer.Answer.{Answer}
 use Rattle.rules.specs.declared.answer.Answer.TheVariants.{Done, Read as ReadAnswer, Wrote, Wired, Synced}
@@ -31,7 +31,7 @@ abbrev pub memory_outcome : ℕ → Reply → Result Answer ReplayRefusal
 memory_outcome n (Ok a) = Ok a
 memory_outcome n (Err e) = Err (record { number = n; inner = Memory e })
 
-abbrev pub outcome_by : ℕ → Result Record FileRefusal → Reply → Result Answer ReplayRefusal
+abbrev pub outcome_by : ℕ → Result Call FileRefusal → Reply → Result Answer ReplayRefusal
 outcome_by n (Ok r) reply = memory_outcome n reply
 outcome_by n (Err e) reply = Err (record { number = n; inner = File e })
 
@@ -58,7 +58,7 @@ abbrev pub next_reply : List Reply → Reply
 next_reply [] = Ok Done
 next_reply (r ∷ rs) = r
 
-abbrev pub used : Result Record FileRefusal → ℕ
+abbrev pub used : Result Call FileRefusal → ℕ
 used (Ok r) = 1
 used (Err e) = 0
 

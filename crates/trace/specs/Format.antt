@@ -6,8 +6,8 @@ use Rattle.refusal.specs.declared.file.FileRefusal.{FileRefusal}
 use Rattle.refusal.specs.declared.file.FileRefusal.TheVariants.{Size, Cut, Operation, Field}
 use Rattle.trace.specs.declared.fields.Fields.{Fields}
 use Rattle.trace.specs.declared.record.Entry.{Entry}
-use Rattle.trace.specs.declared.record.Record.{Record}
-use Rattle.trace.specs.declared.record.Record.TheVariants.{Map, Unmap, Protect, Read, Write, Wire, Unwire, Sync}
+use Rattle.calls.specs.declared.Call.{Call}
+use Rattle.calls.specs.declared.Call.TheVariants.{Map, Unmap, Protect, Read, Write, Wire, Unwire, Sync}
 
 -- the number that the `count` bytes from `at` on spell, most significant byte first
 abbrev pub number : List ℕ → ℕ → ℕ → ℕ
@@ -46,7 +46,7 @@ abbrev pub unused_zero : Fields → Bool
 unused_zero f = all_zero (unused f)
 
 -- the record of an operation from 1 to 8, which holds the fields that the operation uses
-abbrev pub record_of : Fields → Record
+abbrev pub record_of : Fields → Call
 record_of f =
     cond (f.operation == 1) (Map f.space f.page f.count f.object f.offset f.protection)
     (cond (f.operation == 2) (Unmap f.space f.page)
@@ -62,13 +62,13 @@ abbrev pub unknown : ℕ → Bool
 unknown operation = operation == 0 || nat_lt 8 operation
 
 -- refusal 3 where the operation is 0 or above 8, else 4 where a field that is to be zero is not, else the record
-abbrev pub content_of : Fields → Result Record FileRefusal
+abbrev pub content_of : Fields → Result Call FileRefusal
 content_of f =
     cond (unknown f.operation) (Err Operation)
     (cond (unused_zero f) (Ok (record_of f)) (Err Field))
 
 -- what the twelve bytes from `at` on spell
-unfoldable pub content_at : List ℕ → ℕ → Result Record FileRefusal
+unfoldable pub content_at : List ℕ → ℕ → Result Call FileRefusal
 content_at bytes at = content_of (fields_of (number bytes at 12))
 
 -- the same with the record's number: the first record begins at 2
@@ -103,7 +103,7 @@ abbrev pub placed : ℕ → ℕ → ℕ → Fields
 placed operation s p = record { operation = operation; space = s; page = p; count = 0; object = 0; offset = 0; protection = 0; zero = 0; word = 0 }
 
 -- the fields of a record: those that its operation does not use are zero
-abbrev pub fields_in : Record → Fields
+abbrev pub fields_in : Call → Fields
 fields_in (Map s p c o f r) = record { operation = 1; space = s; page = p; count = c; object = o; offset = f; protection = r; zero = 0; word = 0 }
 fields_in (Unmap s p) = placed 2 s p
 fields_in (Protect s p r) = record { operation = 3; space = s; page = p; count = 0; object = 0; offset = 0; protection = r; zero = 0; word = 0 }
@@ -130,7 +130,7 @@ abbrev pub bytes_of : ℕ → List ℕ
 bytes_of n = map (λ k. n / 2 ^ (88 - 8 * k) % 256) (range_with_len 0 12)
 
 -- the bytes of a record whose fields fit
-unfoldable pub encoded : Record → Option (List ℕ)
+unfoldable pub encoded : Call → Option (List ℕ)
 encoded r = cond (fit (fields_in r)) (Some (bytes_of (packed (fields_in r)))) None
 
 -- the twelve bytes of a file from `at` on
@@ -138,7 +138,7 @@ abbrev pub window : List ℕ → ℕ → List ℕ
 window bytes at = map (λ k. slice_index bytes (at + k)) (range_with_len 0 12)
 
 -- a record that is handed out from `at` on is encoded to its own twelve bytes
-abbrev pub Own : Result Record FileRefusal → List ℕ → ℕ → Type 0
+abbrev pub Own : Result Call FileRefusal → List ℕ → ℕ → Type 0
 Own (Ok r) bytes at = encoded r ≡ Some (window bytes at)
 Own (Err _) bytes at = Unit {0}
 

@@ -4,7 +4,7 @@ ghost use Rattle.trace.specs.Format.{content_at, frame_count, bytes_of, encoded,
 
 use crate::fields::Fields;
 use crate::reader::MAX_FRAMES;
-use crate::record::Record;
+use calls::Call;
 use refusal::file::FileRefusal;
 
 // The two bytes that a file of a frame count begins with, which are read as that count.
@@ -27,7 +27,7 @@ fn low_bytes(number: u128) -> [u8; 12]
 }
 
 // The twelve bytes of a record, which are read as that record; none where a field does not fit its bits.
-pub fn encode(call: Record) -> Option<[u8; 12]>
+pub fn encode(call: Call) -> Option<[u8; 12]>
     ensures value { result ≡ encoded call }
     ensures back { IfSome result (λ bytes. content_at bytes 0 ≡ Ok call) }
 {

@@ -2,7 +2,7 @@
 ghost use Rattle.std.specs.Prelude.{◌≡◌, ◌+◌, ◌*◌, ◌/◌, ◌%◌, ◌^◌, ◌<◌, if◌then◌else◌, Some, None, nat_lt};
 ghost use Rattle.trace.specs.Format.{fields_of, unknown, unused_zero, record_of, content_of, placed, fields_in, fit, packed};
 
-use crate::record::Record;
+use calls::Call;
 use refusal::file::FileRefusal;
 
 #[derive(Clone, Copy)]
@@ -70,14 +70,14 @@ impl Fields {
     }
 
     // The record of an operation from 1 to 8, with the fields that the operation uses; none of another operation.
-    fn call(&self) -> Option<Record>
+    fn call(&self) -> Option<Call>
         ensures { result ≡ (if unknown self.now.operation then None else Some (record_of self.now)) }
     {
         let (space, page, count) = (self.space, self.page, self.count);
         let (object, offset, protection) = (self.object, self.offset, self.protection);
         let word = self.word;
         Some(match self.operation {
-            1 => Record::Map {
+            1 => Call::Map {
                 space,
                 page,
                 count,
@@ -85,23 +85,23 @@ impl Fields {
                 offset,
                 protection,
             },
-            2 => Record::Unmap { space, page },
-            3 => Record::Protect {
+            2 => Call::Unmap { space, page },
+            3 => Call::Protect {
                 space,
                 page,
                 protection,
             },
-            4 => Record::Read { space, page },
-            5 => Record::Write { space, page, word },
-            6 => Record::Wire { space, page },
-            7 => Record::Unwire { space, page },
-            8 => Record::Sync { object },
+            4 => Call::Read { space, page },
+            5 => Call::Write { space, page, word },
+            6 => Call::Wire { space, page },
+            7 => Call::Unwire { space, page },
+            8 => Call::Sync { object },
             _ => return None,
         })
     }
 
     // The record that the fields spell, or why they spell none.
-    pub fn content(&self) -> Result<Record, FileRefusal>
+    pub fn content(&self) -> Result<Call, FileRefusal>
         ensures { result ≡ content_of self.now }
     {
         let Some(call) = self.call() else {
@@ -132,11 +132,11 @@ impl Fields {
     }
 
     // The fields of a record: those that its operation does not use are zero.
-    pub fn of_record(call: Record) -> Fields
+    pub fn of_record(call: Call) -> Fields
         ensures { result ≡ fields_in call }
     {
         match call {
-            Record::Map {
+            Call::Map {
                 space,
                 page,
                 count,
@@ -152,8 +152,8 @@ impl Fields {
                     ..Fields::at_place(1, space, page)
                 }
             }
-            Record::Unmap { space, page } => Fields::at_place(2, space, page),
-            Record::Protect {
+            Call::Unmap { space, page } => Fields::at_place(2, space, page),
+            Call::Protect {
                 space,
                 page,
                 protection,
@@ -161,14 +161,14 @@ impl Fields {
                 protection,
                 ..Fields::at_place(3, space, page)
             },
-            Record::Read { space, page } => Fields::at_place(4, space, page),
-            Record::Write { space, page, word } => Fields {
+            Call::Read { space, page } => Fields::at_place(4, space, page),
+            Call::Write { space, page, word } => Fields {
                 word,
                 ..Fields::at_place(5, space, page)
             },
-            Record::Wire { space, page } => Fields::at_place(6, space, page),
-            Record::Unwire { space, page } => Fields::at_place(7, space, page),
-            Record::Sync { object } => Fields {
+            Call::Wire { space, page } => Fields::at_place(6, space, page),
+            Call::Unwire { space, page } => Fields::at_place(7, space, page),
+            Call::Sync { object } => Fields {
                 object,
                 ..Fields::at_place(8, 0, 0)
             },

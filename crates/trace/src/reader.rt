@@ -3,7 +3,8 @@ ghost use Rattle.std.specs.Prelude.{◌≡◌, ◌+◌, ◌-◌, ◌/◌, ◌%�
 ghost use Rattle.trace.specs.Format.{number as number_at, content_at, entry_at, frame_count, checked, Own};
 
 use crate::fields::Fields;
-use crate::record::{Entry, Record};
+use crate::record::Entry;
+use calls::Call;
 use refusal::file::FileRefusal;
 
 // The most bytes that a trace file may have.
@@ -55,7 +56,7 @@ fn number_at(bytes: &[u8], at: usize) -> u128
 }
 
 // What the twelve bytes from a place on spell.
-fn content_at(bytes: &[u8], at: usize) -> Result<Record, FileRefusal>
+fn content_at(bytes: &[u8], at: usize) -> Result<Call, FileRefusal>
     requires { at + 12 ≤ length bytes.now }
     ensures value { result ≡ content_at bytes.now at }
     ensures own { Own result bytes.now at }

@@ -1,8 +1,8 @@
 use Rattle.std.proofs.Common.{◌≡◌, ℕ, ◌+◌, ◌<◌, ◌≤◌, List, ◌∷◌, ◌++◌, length, get_or, drop, Ok, Err, string_bytes, Result, sym, refl, ap, ◌∙◌, append_assoc, append-nil, arith}
 use Rattle.std.proofs.lemmas.List.{at_drop_more, at_drop_all, drop-drop}
 use Rattle.refusal.specs.declared.file.FileRefusal.{FileRefusal}
-use Rattle.trace.specs.declared.record.Record.{Record}
-use Rattle.trace.specs.declared.record.Record.TheVariants.{Map}
+use Rattle.calls.specs.declared.Call.{Call}
+use Rattle.calls.specs.declared.Call.TheVariants.{Map}
 use Rattle.trace.specs.declared.record.Entry.{Entry}
 use Rattle.rules.specs.Rules.{Reply}
 use Rattle.replays.specs.Blocks.{outcome_line, outcome_of, next_reply, used, lines_of}
@@ -20,11 +20,11 @@ again : (old new piece line rest left total : List ℕ) → new ≡ old ++ piece
 again old new piece line rest left total put is more whole =
     ap (λ x. x ++ rest) put ∙ append_assoc old piece rest ∙ ap (λ x. old ++ (x ++ rest)) is ∙ ap (λ x. old ++ x) (sym more) ∙ whole
 
-used_most : (r : Result Record FileRefusal) → used r ≤ 1
+used_most : (r : Result Call FileRefusal) → used r ≤ 1
 used_most (Ok x) = omega arith
 used_most (Err e) = omega arith
 
-past_most : (next i past : ℕ) (r : Result Record FileRefusal) → next ≤ i → past ≡ next + used r → past ≤ i + 1
+past_most : (next i past : ℕ) (r : Result Call FileRefusal) → next ≤ i → past ≡ next + used r → past ≤ i + 1
 past_most next i past r le is = omega (arith, used_most r)
 
 pub after-next-requires : goal.after-next-requires
