@@ -1,6 +1,7 @@
 // A memory over a pmap. Clauses see its parts, which keep what `Whole` says.
 ghost use Rattle.std.specs.Prelude.{◌≡◌, ◌<◌};
 ghost use Rattle.rules.specs.State.{is_modified as modified_in};
+ghost use Rattle.memory_meaning.specs.Ready.{Bounded};
 ghost use Rattle.memory.specs.Whole.{state};
 
 use crate::parts::Parts;
@@ -28,7 +29,8 @@ impl<P: Pmap> Model for Memory<P> {
 impl<P: Pmap> Memory<P> {
     // What it has counted.
     pub fn counts(&self) -> Counts
-        ensures { result ≡ (state P.view self.now).counts }
+        ensures counts { result ≡ (state P.view self.now).counts }
+        ensures bounded { Bounded result }
     {
         self.parts.counts
     }
