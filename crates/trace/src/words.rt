@@ -1,4 +1,4 @@
-// Records and entries in plain words: the operation and each field that it uses, or why a record is turned away.
+// Entries in plain words: the call, or why its record is turned away.
 ghost use Rattle.std.specs.Prelude.{Some};
 ghost use Rattle.trace.specs.Words.{entry_words};
 
@@ -13,12 +13,7 @@ impl fmt::Display for Entry {
         let number = self.number;
         match self.content {
             Ok(call) => write!(f, "{number} {call}"),
-            Err(refusal) => {
-                let code = refusal.code();
-                let which = code.number;
-                let layer = code.layer;
-                write!(f, "{number} refused {which} {layer}")
-            }
+            Err(refusal) => write!(f, "{number} refused {}", refusal.code()),
         }
     }
 }

@@ -294,7 +294,7 @@ fn turned_away(rt: HostRuntime) -> Result<(), Fail> {
             assert_eq!(rt; refusal.code().number, 1);
             Ok(())
         },
-        Err(ReadError::Memory) => Err(Fail::new("no memory")),
+        Err(ReadError::Memory(_)) => Err(Fail::new("no memory")),
         Ok(_) => Err(Fail::new("the file is read")),
     }
 }
