@@ -89,7 +89,7 @@ module _ (s : State) (a p : ℕ) (fits : fits_place a p ≡ true) where
       pub wire_passes : length s.wired < 8 → call_refusal s (Wire a p) ≡ wants_frame s (lie s (page_in r p))
       wire_passes e = in_range (fits_place a p) _ fits ∙ ap (wire_refusal s a p) cov ∙ cond-false _ _ _ new ∙ cond-false _ _ _ (lt-leb _ _ e)
 
-      pub wire_served : (v x w : View) (t u : State) (f : ℕ) (loaded : Bool) (out : Evicted) → length s.wired < 8 → Brings v x s t (page_in r p) f loaded out → t.dirty ≡ x.modified → PutForgetting x w a p (Some (f, r.protection, true)) x.modified → u ≡ with_wired (with_dirty t w.modified) (t.wired ++ (record { space = a; page = p; frame = f } ∷ [])) → Serves v w s u (Wire a p) (Ok (Wired (record { loaded = loaded; evicted = out })))
+      pub wire_served : (v x w : View) (t u : State) (f : ℕ) (loaded : Bool) (out : Option Evicted) → length s.wired < 8 → Brings v x s t (page_in r p) f loaded out → t.dirty ≡ x.modified → PutForgetting x w a p (Some (f, r.protection, true)) x.modified → u ≡ with_wired (with_dirty t w.modified) (t.wired ++ (record { space = a; page = p; frame = f } ∷ [])) → Serves v w s u (Wire a p) (Ok (Wired (record { loaded = loaded; evicted = out })))
       wire_served v x w t u f loaded out few b dirty put is =
           let at = page_at_is s a p r cov in
           let y = page_at s a p in

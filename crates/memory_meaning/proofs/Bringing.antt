@@ -4,7 +4,6 @@ use Rattle.std.proofs.lemmas.Bool.{cond-true, cond-false, lt-ltb, le-ltb, or_lef
 use Rattle.refusal.specs.declared.memory.MemoryRefusal.TheVariants.{NoFrame}
 use Rattle.pmap.specs.Meaning.{View}
 use Rattle.rules.specs.declared.answer.Evicted.{Evicted}
-use Rattle.rules.specs.declared.answer.Evicted.TheVariants.{Nothing}
 use Rattle.rules.specs.Lists.{place, without}
 use Rattle.rules.specs.State.{State, lie}
 use Rattle.rules.specs.Refusals.{free, has_frame, wants_frame}
@@ -20,7 +19,7 @@ use Rattle.memory_meaning.specs.Evicting.{Evicts}
 
 module _ (v : View) (s : State) (x : ℕ) (good : Good s) where
   -- the page is resident already
-  pub brings_here : (f : ℕ) → lie s x ≡ Some f → Brings v v s s x f false Nothing
+  pub brings_here : (f : ℕ) → lie s x ≡ Some f → Brings v v s s x f false None
   brings_here f is = record {
     room = ap (wants_frame s) is;
     state = sym (ap (resident_by s x) is);
@@ -35,7 +34,7 @@ module _ (v : View) (s : State) (x : ℕ) (good : Good s) where
     room_is has = ap (wants_frame s) absent ∙ cond-false _ _ _ (ap not has)
 
     -- into an unused frame
-    pub brings_unused : (t : State) → length s.queue < s.frames → t ≡ load s x (length s.queue) → Brings v v s t x (length s.queue) true Nothing
+    pub brings_unused : (t : State) → length s.queue < s.frames → t ≡ load s x (length s.queue) → Brings v v s t x (length s.queue) true None
     brings_unused t room is =
         let yes : unused s ≡ true = lt-ltb _ _ room in
         let end : resident s x ≡ load s x (length s.queue) = ap (resident_by s x) absent ∙ cond-true _ _ _ yes in
@@ -78,7 +77,7 @@ module _ (v : View) (s : State) (x : ℕ) (good : Good s) where
         pub less_used : length (without (eqb (get_or s.queue at 0)) s.queue) < 256
         less_used = omega (arith, length_without (eqb (get_or s.queue at 0)) s.queue victim_used, good.queue_few, good.frames_few)
 
-        pub brings_victim : (w : View) (mid t : State) (out : Evicted) → Evicts v w s mid (get_or s.queue at 0) out → t ≡ load mid x (get_or s.queue at 0) → Brings v w s t x (get_or s.queue at 0) true out
+        pub brings_victim : (w : View) (mid t : State) (out : Evicted) → Evicts v w s mid (get_or s.queue at 0) out → t ≡ load mid x (get_or s.queue at 0) → Brings v w s t x (get_or s.queue at 0) true (Some out)
         brings_victim w mid t out evicts is =
             let f = get_or s.queue at 0 in
             let room : wants_frame s (lie s x) ≡ None = room_is (or_right _ _ (place_any (free s.wired) s.queue at here)) in
@@ -89,7 +88,7 @@ module _ (v : View) (s : State) (x : ℕ) (good : Good s) where
               state = is ∙ ap (λ z. load z x f) evicts.state ∙ sym end;
               lies = ap (λ z. lie z x) end ∙ lie_loaded (evict s f) x f (ready_evicted s f good victim_used (first_passes (free s.wired) s.queue f victim_is)) low gone;
               told = sym (ap is_none absent);
-              out = evicts.told ∙ sym (ap (evicted_by s) absent ∙ cond-false _ _ _ used_up ∙ ap (replaced_page s) victim_is);
+              out = ap Some evicts.told ∙ sym (ap (evicted_by s) absent ∙ cond-false _ _ _ used_up ∙ ap (replaced_page s) victim_is);
               held = λ a b. evicts.held a b ∙ sym (ap (λ z. dropped_by (evictee s z) (v.held a b)) absent ∙ ap (λ z. dropped_by z (v.held a b)) (cond-false _ _ _ used_up ∙ victim_is));
             }
           where

@@ -10,7 +10,6 @@ use Rattle.calls.specs.declared.Call.{Call}
 use Rattle.calls.specs.declared.Call.TheVariants.{Map, Unmap, Protect, Read, Write, Wire, Unwire, Sync}
 use Rattle.rules.specs.declared.answer.Answer.TheVariants.{Done, Read as ReadAnswer, Wrote, Wired, Synced}
 use Rattle.rules.specs.declared.answer.Evicted.{Evicted}
-use Rattle.rules.specs.declared.answer.Evicted.TheVariants.{Nothing, Page}
 use Rattle.rules.specs.declared.answer.Kind.{Kind}
 use Rattle.rules.specs.declared.answer.Kind.TheVariants.{Hit, Soft, Hard}
 use Rattle.rules.specs.declared.counts.Counts.{Counts}
@@ -40,13 +39,13 @@ one_most : (b : Bool) → one b ≤ 1
 one_most true = omega arith
 one_most false = omega arith
 
-savings_most : (e : Evicted) → savings e ≤ 1
-savings_most Nothing = omega arith
-savings_most (Page o i stored) = one_most stored
+savings_most : (o : Option Evicted) → savings o ≤ 1
+savings_most None = omega arith
+savings_most (Some e) = one_most e.stored
 
-evictions_most : (e : Evicted) → evictions e ≤ 1
-evictions_most Nothing = omega arith
-evictions_most (Page o i stored) = omega arith
+evictions_most : (o : Option Evicted) → evictions o ≤ 1
+evictions_most None = omega arith
+evictions_most (Some e) = omega arith
 
 -- what a reply adds
 pub stored_few : (s : State) (c : Call) (hit : Bool) (o : Option MemoryRefusal) → stored_in (reply_by s c hit o) ≤ 2048

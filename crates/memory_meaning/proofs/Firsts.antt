@@ -5,6 +5,7 @@ use Rattle.std.proofs.lemmas.Bool.{cases_Bool, cond-true, cond-false, both_ways,
 use Rattle.rules.specs.declared.region.WiredPlace.{WiredPlace}
 use Rattle.rules.specs.Lists.{first, any, without, changed}
 use Rattle.rules.specs.Refusals.{is_place}
+use Rattle.rules.proofs.Lists.{first_hit, first_miss, any_append}
 use Rattle.memory_meaning.specs.Matches.{PlacesApart}
 
 pub none_some : {A : Type 0} {x : A} → ◌≡◌ {A = Option A} None (Some x) → ⊥
@@ -14,29 +15,12 @@ pub some_inj : {A : Type 0} {x y : A} → Some x ≡ Some y → x ≡ y
 some_inj e = cc
 
 module _ {A : Type 0} (test : A → Bool) where
-  pub first_here : (x : A) (xs : List A) → test x ≡ true → first test (x ∷ xs) ≡ Some x
-  unfolding first
-  first_here x xs e = cond-true _ _ _ e
-
-  pub first_later : (x : A) (xs : List A) → test x ≡ false → first test (x ∷ xs) ≡ first test xs
-  unfolding first
-  first_later x xs e = cond-false _ _ _ e
-
-  -- the first that passes does pass
-  pub first_passes : (xs : List A) (x : A) → first test xs ≡ Some x → test x ≡ true
-  unfolding first
-  first_passes [] x e = absurd (none_some e)
-  first_passes (y ∷ ys) x e = ⊎_elim
-      (λ (t : test y ≡ true). ap test (sym (some_inj (sym (first_here y ys t) ∙ e))) ∙ t)
-      (λ (t : test y ≡ false). first_passes ys x (sym (first_later y ys t) ∙ e))
-      (cases_Bool (test y))
-
   pub first_append : (xs ys : List A) (x : A) → first test xs ≡ Some x → first test (xs ++ ys) ≡ Some x
   unfolding first
   first_append [] ys x e = absurd (none_some e)
   first_append (y ∷ zs) ys x e = ⊎_elim
-      (λ (t : test y ≡ true). first_here y (zs ++ ys) t ∙ sym (first_here y zs t) ∙ e)
-      (λ (t : test y ≡ false). first_later y (zs ++ ys) t ∙ first_append zs ys x (sym (first_later y zs t) ∙ e))
+      (λ (t : test y ≡ true). first_hit test y (zs ++ ys) t ∙ sym (first_hit test y zs t) ∙ e)
+      (λ (t : test y ≡ false). first_miss test y (zs ++ ys) t ∙ first_append zs ys x (sym (first_miss test y zs t) ∙ e))
       (cases_Bool (test y))
 
   -- leaving out an element that does not pass leaves the first that does
@@ -46,7 +30,7 @@ module _ {A : Type 0} (test : A → Bool) where
   first_without other (x ∷ xs) r e t = ⊎_elim
       (λ (o : other x ≡ true).
       let same : x ≡ r = some_inj (sym (cond-true _ _ _ o) ∙ e) in
-      ap (first test) (cond-true _ _ _ o) ∙ sym (first_later x xs (ap test same ∙ t)))
+      ap (first test) (cond-true _ _ _ o) ∙ sym (first_miss test x xs (ap test same ∙ t)))
       (λ (o : other x ≡ false).
       ap (first test) (cond-false _ _ _ o)
       ∙ ap (λ z. cond (test x) (Some x) z) (first_without other xs r (sym (cond-false _ _ _ o) ∙ e) t))
@@ -60,28 +44,19 @@ module _ {A : Type 0} (test : A → Bool) where
       (λ (o : other x ≡ true). ⊎_elim
       (λ (t : test x ≡ true).
       let is : x ≡ r = some_inj (sym (cond-true _ _ _ t) ∙ e) in
-      inr (cond-true _ _ _ o ∙ ap Some is, ap (first test) (cond-true _ _ _ o) ∙ first_here (f x) xs (same x ∙ t) ∙ ap (λ z. Some (f z)) is))
+      inr (cond-true _ _ _ o ∙ ap Some is, ap (first test) (cond-true _ _ _ o) ∙ first_hit test (f x) xs (same x ∙ t) ∙ ap (λ z. Some (f z)) is))
       (λ (t : test x ≡ false).
-      inl (ap (first test) (cond-true _ _ _ o) ∙ first_later (f x) xs (same x ∙ t) ∙ sym (cond-false _ _ _ t) ∙ e))
+      inl (ap (first test) (cond-true _ _ _ o) ∙ first_miss test (f x) xs (same x ∙ t) ∙ sym (cond-false _ _ _ t) ∙ e))
       (cases_Bool (test x)))
       (λ (o : other x ≡ false). ⊎_elim
       (λ (t : test x ≡ true).
-      inl (ap (first test) (cond-false _ _ _ o) ∙ first_here x (changed other f xs) t ∙ sym (cond-true _ _ _ t) ∙ e))
+      inl (ap (first test) (cond-false _ _ _ o) ∙ first_hit test x (changed other f xs) t ∙ sym (cond-true _ _ _ t) ∙ e))
       (λ (t : test x ≡ false). ⊎_elim
-      (λ l. inl (ap (first test) (cond-false _ _ _ o) ∙ first_later x (changed other f xs) t ∙ l))
-      (λ l. inr (cond-false _ _ _ o ∙ l.0, ap (first test) (cond-false _ _ _ o) ∙ first_later x (changed other f xs) t ∙ l.1))
+      (λ l. inl (ap (first test) (cond-false _ _ _ o) ∙ first_miss test x (changed other f xs) t ∙ l))
+      (λ l. inr (cond-false _ _ _ o ∙ l.0, ap (first test) (cond-false _ _ _ o) ∙ first_miss test x (changed other f xs) t ∙ l.1))
       (first_changed other f same xs r (sym (cond-false _ _ _ t) ∙ e)))
       (cases_Bool (test x)))
       (cases_Bool (other x))
-
-  pub any_append : (xs ys : List A) → any test (xs ++ ys) ≡ (any test xs || any test ys)
-  unfolding any
-  any_append [] ys = refl
-  any_append (x ∷ xs) ys = ap (λ z. test x || z) (any_append xs ys) ∙ or_assoc (test x) (any test xs) (any test ys)
-    where
-      or_assoc : (a b c : Bool) → (a || (b || c)) ≡ ((a || b) || c)
-      or_assoc true b c = refl
-      or_assoc false b c = refl
 
   -- what holds of each, where none passes the test, from what holds of each that does not pass it
   pub all_untested : (P Q : A → Type 0) → ((x : A) → test x ≡ false → P x → Q x) → (xs : List A) → any test xs ≡ false → AllByRecursion P xs → AllByRecursion Q xs
@@ -90,23 +65,6 @@ module _ {A : Type 0} (test : A → Bool) where
   all_untested P Q f (x ∷ xs) n h =
       let parts = or_parts (test x) (any test xs) n in
       (f x parts.0 h.0, all_untested P Q f xs parts.1 h.1)
-
-  pub all_without : (P : A → Type 0) (xs : List A) → AllByRecursion P xs → AllByRecursion P (without test xs)
-  unfolding without
-  all_without P [] h = tt
-  all_without P (x ∷ xs) h = ⊎_elim
-      (λ (t : test x ≡ true). rw (cond-true (test x) xs (x ∷ without test xs) t) h.1)
-      (λ (t : test x ≡ false). rw (cond-false (test x) xs (x ∷ without test xs) t) (h.0, all_without P xs h.1))
-      (cases_Bool (test x))
-
-  -- a test that the left out element does not pass
-  pub any_without : (other : A → Bool) → ((x : A) → other x ≡ true → test x ≡ false) → (xs : List A) → any test (without other xs) ≡ any test xs
-  unfolding any without
-  any_without other no_both [] = refl
-  any_without other no_both (x ∷ xs) = ⊎_elim
-      (λ (o : other x ≡ true). ap (any test) (cond-true _ _ _ o) ∙ ap (λ z. z || any test xs) (sym (no_both x o)))
-      (λ (o : other x ≡ false). ap (any test) (cond-false _ _ _ o) ∙ ap (λ z. test x || z) (any_without other no_both xs))
-      (cases_Bool (other x))
 
 -- two tests for one place are one test
 pub place_test : (a b : ℕ) (w : WiredPlace) → is_place a b w ≡ true → (w.space ≡ a) × (w.page ≡ b)

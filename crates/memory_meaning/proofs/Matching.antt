@@ -10,7 +10,8 @@ use Rattle.rules.specs.State.{page_in}
 use Rattle.rules.specs.Refusals.{cover, covers, begins, is_place, in_region, on_frame}
 use Rattle.rules.specs.Rules.{with_protection}
 use Rattle.memory_meaning.specs.Matches.{Covered, HeldWired, PlacesApart, Matches}
-use Rattle.memory_meaning.proofs.Firsts.{none_some, some_inj, first_passes, first_append, first_without, first_changed, any_append, all_untested, all_without, any_without, place_test, place_gone, apart_push, apart_without}
+use Rattle.rules.proofs.Lists.{first_passes, any_append, all_without, any_without}
+use Rattle.memory_meaning.proofs.Firsts.{none_some, some_inj, first_append, first_without, first_changed, all_untested, place_test, place_gone, apart_push, apart_without}
 
 abbrev pub HeldAt : Type 0
 HeldAt = ℕ → ℕ → Option Mapping
@@ -136,7 +137,7 @@ module _ (h k : HeldAt) (rs : List Region) (ls : List (Option ℕ)) (ws : List W
         (without (is_place a p) ws) (place_gone a p ws M.apart) (all_without (is_place a p) (HeldWired h rs) ws M.wired);
     listed = λ c d w. ⊎_elim
         (λ at. absurd (both_ways false refl (sym (ap is_wired (move k a p c d at.0 at.1 ∙ here)) ∙ w)))
-        (λ far. any_without (is_place c d) (is_place a p) (apart_tests c d far) ws ∙ M.listed c d (wired_was (h c d) (k c d) (others c d far) w))
+        (λ far. any_without (is_place a p) (is_place c d) (apart_tests c d far) ws ∙ M.listed c d (wired_was (h c d) (k c d) (others c d far) w))
         (cases_place a p c d);
     apart = apart_without (is_place a p) ws M.apart;
   }

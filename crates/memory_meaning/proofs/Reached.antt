@@ -8,7 +8,6 @@ use Rattle.pmap.specs.Meaning.{Mapping, View, EnterRefused, Stays, PutForgetting
 use Rattle.pmap.specs.declared.access.Access.TheVariants.{Hit, Miss}
 use Rattle.rules.specs.declared.answer.Kind.TheVariants.{Hit as HitKind, Soft, Hard}
 use Rattle.rules.specs.declared.answer.Evicted.{Evicted}
-use Rattle.rules.specs.declared.answer.Evicted.TheVariants.{Nothing}
 use Rattle.rules.specs.declared.region.Region.{Region}
 use Rattle.rules.specs.State.{State, lie, page_in}
 use Rattle.rules.specs.Refusals.{cover, wants_frame}
@@ -64,7 +63,7 @@ pub page_at_is : (s : State) (a p : ℕ) (r : Region) → cover s.regions a p �
 page_at_is s a p r e = ap (λ z. object_page z p) e
 
 -- a hit
-pub reaches_hit : (v w : View) (s : State) (a p f : ℕ) (write : Bool) → Matches v.held s.regions s.lies s.wired → s.dirty ≡ v.modified → Hit f ≡ answered (v.held a p) write → PutForgetting v w a p (v.held a p) (marked v.modified write f) → Reaches v w s (with_dirty s w.modified) a p write f (record { kind = HitKind; evicted = Nothing })
+pub reaches_hit : (v w : View) (s : State) (a p f : ℕ) (write : Bool) → Matches v.held s.regions s.lies s.wired → s.dirty ≡ v.modified → Hit f ≡ answered (v.held a p) write → PutForgetting v w a p (v.held a p) (marked v.modified write f) → Reaches v w s (with_dirty s w.modified) a p write f (record { kind = HitKind; evicted = None })
 reaches_hit v w s a p f write fits dirty hit put =
     let is = serves_hit (v.held a p) write f hit in
     let x = fits.covered a p is.1.0 is.1.1 in
@@ -79,7 +78,7 @@ reaches_hit v w s a p f write fits dirty hit put =
     }
 
 -- a fault: the object page is brought in, its mapping entered, and the access hits
-module _ (v x y w : View) (s t : State) (a p f g : ℕ) (write loaded : Bool) (out : Evicted) (r : Region)
+module _ (v x y w : View) (s t : State) (a p f g : ℕ) (write loaded : Bool) (out : Option Evicted) (r : Region)
     (cov : cover s.regions a p ≡ Some r)
     (missed : serves (v.held a p) write ≡ false)
     (brings : Brings v x s t (page_in r p) f loaded out)

@@ -64,7 +64,7 @@ dropped_by None m = m
 dropped_by (Some f) m = without_frame f m
 
 -- an object page is brought in: its frame, whether it was loaded, and what made room
-pub record Brings (v w : View) (s t : State) (x frame : ℕ) (loaded : Bool) (evicted : Evicted) : Type 0 where
+pub record Brings (v w : View) (s t : State) (x frame : ℕ) (loaded : Bool) (evicted : Option Evicted) : Type 0 where
   pub room : wants_frame s (lie s x) ≡ None
   pub state : t ≡ resident s x
   pub lies : lie (resident s x) x ≡ Some frame

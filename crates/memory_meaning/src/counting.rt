@@ -14,31 +14,17 @@ fn one(b: bool) -> u32
 }
 
 // How many pages were evicted.
-fn evictions(evicted: &Evicted) -> u32
-    ensures { result ≡ evictions_in evicted.now }
+fn evictions(evicted: Option<Evicted>) -> u32
+    ensures { result ≡ evictions_in evicted }
 {
-    match evicted {
-        Evicted::Nothing => 0,
-        Evicted::Page {
-            object: _,
-            index: _,
-            stored: _,
-        } => 1,
-    }
+    u32::from(evicted.is_some())
 }
 
 // How many of them were stored.
-fn savings(evicted: &Evicted) -> u32
-    ensures { result ≡ savings_in evicted.now }
+fn savings(evicted: Option<Evicted>) -> u32
+    ensures { result ≡ savings_in evicted }
 {
-    match evicted {
-        Evicted::Nothing => 0,
-        Evicted::Page {
-            object: _,
-            index: _,
-            stored,
-        } => one(*stored),
-    }
+    u32::from(evicted.is_some_and(|page| page.stored))
 }
 
 // An accepted read or write.
@@ -56,8 +42,8 @@ fn accessed(n: &Counts, report: &Report) -> Counts
         soft: n.soft + one(soft),
         hard: n.hard + one(hard),
         loads: n.loads + one(hard),
-        evicted: n.evicted + evictions(&report.evicted),
-        stored: n.stored + savings(&report.evicted),
+        evicted: n.evicted + evictions(report.evicted),
+        stored: n.stored + savings(report.evicted),
     }
 }
 
@@ -80,8 +66,8 @@ pub fn added(n: &Counts, reply: &Reply) -> Counts
         Ok(Answer::Wired(wiring)) => Counts {
             calls: n.calls + 1,
             loads: n.loads + one(wiring.loaded),
-            evicted: n.evicted + evictions(&wiring.evicted),
-            stored: n.stored + savings(&wiring.evicted),
+            evicted: n.evicted + evictions(wiring.evicted),
+            stored: n.stored + savings(wiring.evicted),
             ..*n
         },
         Ok(Answer::Synced(stored)) => Counts {

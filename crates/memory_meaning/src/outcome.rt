@@ -6,7 +6,7 @@ use rules::answer::{Evicted, Report};
 pub struct Brought {
     pub frame: u16,
     pub loaded: bool,
-    pub evicted: Evicted,
+    pub evicted: Option<Evicted>,
 }
 
 // The frame that an access came to, and how it went.

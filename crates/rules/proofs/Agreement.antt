@@ -8,7 +8,6 @@ use Rattle.calls.specs.declared.Call.{Call}
 use Rattle.calls.specs.declared.Call.TheVariants.{Map, Unmap, Protect, Read, Write, Wire, Unwire, Sync}
 use Rattle.rules.specs.declared.answer.Kind.{Kind}
 use Rattle.rules.specs.declared.answer.Kind.TheVariants.{Hit, Soft, Hard}
-use Rattle.rules.specs.declared.answer.Evicted.TheVariants.{Nothing}
 use Rattle.rules.specs.declared.answer.Answer.TheVariants.{Done, Read as ReadAnswer, Wrote, Wired, Synced}
 use Rattle.rules.specs.declared.counts.Counts.{Counts}
 use Rattle.rules.specs.declared.region.Region.{Region}
@@ -59,7 +58,7 @@ module _ (s : State) (n : Counts) where
   brought_same x false None = refl
   brought_same x false (Some f) = refl
 
-  out_same : (b : Bool) (v : Option ℕ) → cond b Nothing (replaced_page (with_counts s n) v) ≡ cond b Nothing (replaced_page s v)
+  out_same : (b : Bool) (v : Option ℕ) → cond b None (replaced_page (with_counts s n) v) ≡ cond b None (replaced_page s v)
   out_same true v = refl
   out_same false None = refl
   out_same false (Some f) = refl

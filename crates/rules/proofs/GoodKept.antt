@@ -8,7 +8,6 @@ use Rattle.std.proofs.lemmas.Bool.{cases_Bool, cases_lt, eq-eqb, eqb-true, eqb-f
 use Rattle.refusal.specs.declared.memory.MemoryRefusal.{MemoryRefusal}
 use Rattle.refusal.specs.declared.memory.MemoryRefusal.TheVariants.{NoFrame}
 use Rattle.rules.specs.declared.answer.Evicted.{Evicted}
-use Rattle.rules.specs.declared.answer.Evicted.TheVariants.{Nothing}
 use Rattle.rules.specs.declared.counts.Counts.{Counts}
 use Rattle.rules.specs.declared.region.Region.{Region}
 use Rattle.rules.specs.declared.region.WiredPlace.{WiredPlace}
@@ -30,7 +29,7 @@ refuse_none false e o h = (refl, h)
 
 -- a page is brought in
 
-pub record Brought (s t : State) (x : ℕ) (out : Evicted) : Type 0 where
+pub record Brought (s t : State) (x : ℕ) (out : Option Evicted) : Type 0 where
   pub good : Good t
   pub frame : ℕ
   pub lies : lie t x ≡ Some frame
@@ -44,7 +43,7 @@ pub record Brought (s t : State) (x : ℕ) (out : Evicted) : Type 0 where
   pub other : IsEvicted x out → ⊥
 
 module _ (s : State) (x : ℕ) (g : Good s) (low : x < 2048) where
-  brings_here : (f : ℕ) → lie s x ≡ Some f → Brought s s x Nothing
+  brings_here : (f : ℕ) → lie s x ≡ Some f → Brought s s x None
   brings_here f e = record {
     good = g;
     frame = f;
@@ -59,7 +58,7 @@ module _ (s : State) (x : ℕ) (g : Good s) (low : x < 2048) where
     other = λ e. e;
   }
 
-  brings_unused : lie s x ≡ None → length s.queue < s.frames → Brought s (load s x (length s.queue)) x Nothing
+  brings_unused : lie s x ≡ None → length s.queue < s.frames → Brought s (load s x (length s.queue)) x None
   brings_unused absent room =
       let f = length s.queue in
       let r = ready_unused s g room in
@@ -77,7 +76,7 @@ module _ (s : State) (x : ℕ) (g : Good s) (low : x < 2048) where
         other = λ e. e;
       }
 
-  brings_victim : (f : ℕ) → lie s x ≡ None → victim s ≡ Some f → Brought s (load (evict s f) x f) x (evicted_page s f)
+  brings_victim : (f : ℕ) → lie s x ≡ None → victim s ≡ Some f → Brought s (load (evict s f) x f) x (Some (evicted_page s f))
   brings_victim f absent v =
       record {
         good = good_loaded t x f r low gone;
@@ -118,7 +117,7 @@ module _ (s : State) (x : ℕ) (g : Good s) (low : x < 2048) where
       by_victim None e some = let is = first_some (free s.wired) s.queue some in let k = is.1 in never (cc)
       by_victim (Some f) e some = brings_victim f absent e
 
-      by : (b : Bool) → unused s ≡ b → Brought s (cond b (load s x (length s.queue)) (replaced s x (victim s))) x (cond b Nothing (replaced_page s (victim s)))
+      by : (b : Bool) → unused s ≡ b → Brought s (cond b (load s x (length s.queue)) (replaced s x (victim s))) x (cond b None (replaced_page s (victim s)))
       by true e = brings_unused absent (ltb-true (length s.queue) s.frames e)
       by false e = by_victim (victim s) refl (simp e at has)
 

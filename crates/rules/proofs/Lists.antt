@@ -1,13 +1,23 @@
 -- The first element that passes a test: where it stands, and the list without it or with it changed. Assumes nothing.
-use Rattle.std.proofs.Common.{◌≡◌, ℕ, zero, suc, ◌+◌, ◌<◌, ◌≤◌, Bool, true, false, ◌||◌, List, [], ◌∷◌, ◌++◌, length, get_or, take, drop, set, is_some, Some, None, Option, sym, refl, ap, ◌∙◌, ⊎_elim, add-one, arith}
-use Rattle.std.specs.List.{AllByRecursion}
-use Rattle.std.proofs.lemmas.List.{drop_more, drop_all}
-use Rattle.std.proofs.lemmas.Bool.{cases_Bool, or_parts, or_left, or_right}
-use Rattle.rules.specs.Lists.{first, further, place, any, without, changed}
+use Rattle.std.proofs.Common.{◌≡◌, ℕ, suc, ◌+◌, ◌<◌, ◌≤◌, Bool, true, false, cond, ltb, ◌||◌, List, [], ◌∷◌, ◌++◌, length, get_or, take, drop, set, is_some, Some, None, Option, sym, refl, ap, ◌∙◌, ⊎_elim, add-one, one-add, arith}
+use Rattle.std.specs.List.{AllByRecursion, position_or_len}
+use Rattle.std.proofs.lemmas.Bool.{cases_Bool, cases_lt, cond-true, cond-false, lt-ltb, le-ltb, or_parts, or_left, or_right}
+use Rattle.rules.specs.Lists.{first, place, any, without, changed}
 
 -- two different constructors are never equal: `cc` gives the equation of the numbers
 pub never : {B : Type 0} → ◌≡◌ {A = ℕ} 0 1 → B
 never e = absurd (omega arith)
+
+-- a position in the rest of a list
+abbrev pub further : Option ℕ → Option ℕ
+further None = None
+further (Some i) = Some (suc i)
+
+one_further : (n m : ℕ) → cond (ltb (1 + n) (suc m)) (Some (1 + n)) None ≡ further (cond (ltb n m) (Some n) None)
+one_further n m = ⊎_elim
+    (λ (h : n < m). cond-true _ _ _ (lt-ltb (1 + n) (suc m) (omega arith)) ∙ ap Some (one-add n) ∙ sym (ap further (cond-true _ _ _ (lt-ltb n m h))))
+    (λ (h : m ≤ n). cond-false _ _ _ (le-ltb (1 + n) (suc m) (omega arith)) ∙ sym (ap further (cond-false _ _ _ (le-ltb n m h))))
+    (cases_lt n m)
 
 module _ {A : Type 0} (test : A → Bool) where
   -- one element
@@ -20,35 +30,17 @@ module _ {A : Type 0} (test : A → Bool) where
   unfolding first
   first_miss x xs e = simp e
 
+  pub place_hit : (x : A) (xs : List A) → test x ≡ true → place test (x ∷ xs) ≡ Some 0
+  unfolding place
+  place_hit x xs e = simp e (cond-true _ _ _ (lt-ltb 0 (suc (length xs)) (omega arith)))
+
+  pub place_miss : (x : A) (xs : List A) → test x ≡ false → place test (x ∷ xs) ≡ further (place test xs)
+  unfolding place
+  place_miss x xs e = simp e (one_further (position_or_len test xs) (length xs))
+
   pub any_hit : (x : A) (xs : List A) → test x ≡ true → any test (x ∷ xs) ≡ true
   unfolding any
   any_hit x xs e = simp e
-
-  pub any_miss : (x : A) (xs : List A) → test x ≡ false → any test (x ∷ xs) ≡ any test xs
-  unfolding any
-  any_miss x xs e = simp e
-
-  -- a loop over the list: what is left of it
-
-  pub first_here : (xs : List A) (i : ℕ) (d : A) → i < length xs → test (get_or xs i d) ≡ true → first test (drop i xs) ≡ Some (get_or xs i d)
-  first_here xs i d h e = ap (first test) (drop_more xs i d h) ∙ first_hit (get_or xs i d) (drop (i + 1) xs) e
-
-  pub first_more : (xs : List A) (i : ℕ) (d : A) → i < length xs → test (get_or xs i d) ≡ false → first test (drop i xs) ≡ first test (drop (i + 1) xs)
-  first_more xs i d h e = ap (first test) (drop_more xs i d h) ∙ first_miss (get_or xs i d) (drop (i + 1) xs) e
-
-  pub first_all : (xs : List A) (i : ℕ) → length xs ≤ i → first test (drop i xs) ≡ None
-  unfolding first
-  first_all xs i h = ap (first test) (drop_all i xs h)
-
-  pub any_here : (xs : List A) (i : ℕ) (d : A) → i < length xs → test (get_or xs i d) ≡ true → any test (drop i xs) ≡ true
-  any_here xs i d h e = ap (any test) (drop_more xs i d h) ∙ any_hit (get_or xs i d) (drop (i + 1) xs) e
-
-  pub any_more : (xs : List A) (i : ℕ) (d : A) → i < length xs → test (get_or xs i d) ≡ false → any test (drop i xs) ≡ any test (drop (i + 1) xs)
-  any_more xs i d h e = ap (any test) (drop_more xs i d h) ∙ any_miss (get_or xs i d) (drop (i + 1) xs) e
-
-  pub any_all : (xs : List A) (i : ℕ) → length xs ≤ i → any test (drop i xs) ≡ false
-  unfolding any
-  any_all xs i h = ap (any test) (drop_all i xs h)
 
   -- whether there is one
 
@@ -82,9 +74,6 @@ module _ {A : Type 0} (test : A → Bool) where
       (λ (t : test x ≡ true). let k : Some x ≡ Some y = simp t at e in let same : x ≡ y = cc in ap test (sym same) ∙ t)
       (λ (t : test x ≡ false). first_passes xs y (simp t at e))
       (cases_Bool (test x))
-
-  pub first_any : (xs : List A) (y : A) → first test xs ≡ Some y → any test xs ≡ true
-  first_any xs y e = any_first xs ∙ ap is_some e
 
   -- what holds of all elements holds of the first that passes
   pub first_all_of : (P : A → Type 0) (xs : List A) (y : A) → AllByRecursion P xs → first test xs ≡ Some y → P y
@@ -179,14 +168,14 @@ module _ {A : Type 0} (test : A → Bool) where
   place_none [] e = refl
   place_none (x ∷ xs) e =
       let parts = or_parts (test x) (any test xs) e in
-      simp parts.0 (ap further (place_none xs parts.1))
+      place_miss x xs parts.0 ∙ ap further (place_none xs parts.1)
 
   pub place_some : (xs : List A) → any test xs ≡ true → (i : ℕ) × (place test xs ≡ Some i)
   unfolding any place
   place_some [] e = never (cc)
   place_some (x ∷ xs) e = ⊎_elim
-      (λ (t : test x ≡ true). (0, simp t))
-      (λ (t : test x ≡ false). let rest = place_some xs (simp t at e) in (suc rest.0, simp t (ap further rest.1)))
+      (λ (t : test x ≡ true). (0, place_hit x xs t))
+      (λ (t : test x ≡ false). let rest = place_some xs (simp t at e) in (suc rest.0, place_miss x xs t ∙ ap further rest.1))
       (cases_Bool (test x))
 
 -- what the position of the first element that passes tells
@@ -211,8 +200,8 @@ pub placed : {A : Type 0} (test : A → Bool) (xs : List A) (i : ℕ) → place 
 unfolding place first without changed
 placed test [] i e = never (cc)
 placed {A} test (x ∷ xs) i e = ⊎_elim
-    (λ (t : test x ≡ true). here t (simp t at e))
-    (λ (t : test x ≡ false). later t (place test xs) (λ j. placed test xs j) (simp t at e))
+    (λ (t : test x ≡ true). here t (sym (place_hit test x xs t) ∙ e))
+    (λ (t : test x ≡ false). later t (place test xs) (λ j. placed test xs j) (sym (place_miss test x xs t) ∙ e))
     (cases_Bool (test x))
   where
     here : test x ≡ true → Some 0 ≡ Some i → Placed test (x ∷ xs) i
@@ -227,20 +216,3 @@ placed {A} test (x ∷ xs) i e = ⊎_elim
         let next : suc j ≡ i = cc in
         let p : Placed test (x ∷ xs) (suc j) = placed_later test x xs j t (rest j refl) in
         rw next at p
-
--- a loop that looks for it: all elements before fail, and this one passes
-pub place_at : {A : Type 0} (test : A → Bool) (xs : List A) (i : ℕ) (d : A) → i < length xs → ((k : ℕ) → k < i → test (get_or xs k d) ≡ false) → test (get_or xs i d) ≡ true → place test xs ≡ Some i
-unfolding place
-place_at test [] i d h before e = absurd (omega arith)
-place_at test (x ∷ xs) zero d h before e = simp e
-place_at test (x ∷ xs) (suc i) d h before e =
-    let t : test x ≡ false = before 0 (omega arith) in
-    simp t (ap further (place_at test xs i d (omega arith) (λ k q. before (suc k) (omega arith)) e))
-
--- and where all fail there is none
-pub any_none : {A : Type 0} (test : A → Bool) (xs : List A) (d : A) → ((k : ℕ) → k < length xs → test (get_or xs k d) ≡ false) → any test xs ≡ false
-unfolding any
-any_none test [] d fails = refl
-any_none test (x ∷ xs) d fails =
-    let t : test x ≡ false = fails 0 (omega arith) in
-    simp t (any_none test xs d (λ k q. fails (suc k) (omega arith)))

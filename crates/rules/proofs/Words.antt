@@ -5,7 +5,6 @@ use Rattle.std.proofs.lemmas.Bool.{cases_Bool, cases_eq, cases_lt, both_ways, eq
 use Rattle.calls.specs.declared.Call.{Call}
 use Rattle.calls.specs.declared.Call.TheVariants.{Map, Unmap, Protect, Read, Write, Wire, Unwire, Sync}
 use Rattle.rules.specs.declared.answer.Evicted.{Evicted}
-use Rattle.rules.specs.declared.answer.Evicted.TheVariants.{Nothing, Page}
 use Rattle.rules.specs.declared.region.Region.{Region}
 use Rattle.rules.specs.State.{State, lie, dirty_in, is_modified, page_in}
 use Rattle.rules.specs.Refusals.{cover, call_refusal}
@@ -41,12 +40,12 @@ pub data Word (s t : State) (c : Call) (x : ℕ) : Type 0 where
   left : ((w : ℕ) → Written s c x w → ⊥) → content t x ≡ content s x → Word s t c x
 
 -- the mark of page x: set by a write, cleared by an eviction or a sync, or kept
-pub data Mark (s t : State) (c : Call) (out : Evicted) (x : ℕ) : Type 0 where
+pub data Mark (s t : State) (c : Call) (out : Option Evicted) (x : ℕ) : Type 0 where
   marks : (w : ℕ) → Written s c x w → is_modified t x ≡ true → Mark s t c out x
   cleared : ((w : ℕ) → Written s c x w → ⊥) → IsEvicted x out ⊎ (c ≡ Sync (x / 256)) → is_modified t x ≡ false → Mark s t c out x
   kept : ((w : ℕ) → Written s c x w → ⊥) → (IsEvicted x out → ⊥) → (c ≡ Sync (x / 256) → ⊥) → is_modified t x ≡ is_modified s x → Mark s t c out x
 
-pub record Moves (s t : State) (c : Call) (out : Evicted) : Type 0 where
+pub record Moves (s t : State) (c : Call) (out : Option Evicted) : Type 0 where
   pub word : (x : ℕ) → Word s t c x
   pub mark : (x : ℕ) → Mark s t c out x
 
@@ -78,12 +77,12 @@ unwritten s c q x w k = both_ways (quiet c) (ap quiet k.asked) q
 unsynced : (c : Call) → quiet c ≡ true → (o : ℕ) → c ≡ Sync o → ⊥
 unsynced c q o e = both_ways (quiet c) (ap quiet e) q
 
-evicted_cases : (x : ℕ) (out : Evicted) → IsEvicted x out ⊎ (IsEvicted x out → ⊥)
-evicted_cases x Nothing = inr (λ e. e)
-evicted_cases x (Page o i stored) = cases_eq (256 * o + i) x
+evicted_cases : (x : ℕ) (out : Option Evicted) → IsEvicted x out ⊎ (IsEvicted x out → ⊥)
+evicted_cases x None = inr (λ e. e)
+evicted_cases x (Some e) = cases_eq (256 * e.object + e.index) x
 
 -- a page is brought in by such a call
-moves_brought : (s t : State) (c : Call) (y : ℕ) (out : Evicted) → quiet c ≡ true → Brought s t y out → Moves s t c out
+moves_brought : (s t : State) (c : Call) (y : ℕ) (out : Option Evicted) → quiet c ≡ true → Brought s t y out → Moves s t c out
 moves_brought s t c y out q b = record {
   word = λ x. left (unwritten s c q x) (b.words x);
   mark = λ x. ⊎_elim
@@ -93,7 +92,7 @@ moves_brought s t c y out q b = record {
 }
 
 -- such a call moves nothing but regions or wired places
-moves_nothing : (s t : State) (c : Call) → quiet c ≡ true → t.lies ≡ s.lies → t.words ≡ s.words → t.store ≡ s.store → t.dirty ≡ s.dirty → Moves s t c Nothing
+moves_nothing : (s t : State) (c : Call) → quiet c ≡ true → t.lies ≡ s.lies → t.words ≡ s.words → t.store ≡ s.store → t.dirty ≡ s.dirty → Moves s t c None
 moves_nothing s t c q lies words store dirty = record {
   word = λ x. left (unwritten s c q x) (content_same s t x lies words store);
   mark = λ x. kept (unwritten s c q x) (λ e. e) (unsynced c q (x / 256)) (modified_same s t x lies dirty);
@@ -129,7 +128,7 @@ module _ (u : State) (y f w : ℕ) (g : Good u) (lies : lie u y ≡ Some f) wher
           (λ (d : u.dirty h ≡ false). simp (d, other))
           (cases_Bool (u.dirty h))
 
-moves_written : (s u : State) (a p w f : ℕ) (out : Evicted) → Reaches s a p → (b : Brought s u (page_at s a p) out) → lie u (page_at s a p) ≡ Some f → Moves s (written_to u w (Some f)) (Write a p w) out
+moves_written : (s u : State) (a p w f : ℕ) (out : Option Evicted) → Reaches s a p → (b : Brought s u (page_at s a p) out) → lie u (page_at s a p) ≡ Some f → Moves s (written_to u w (Some f)) (Write a p w) out
 moves_written s u a p w f out r b lies = record { word = word; mark = mark }
   where
     y : ℕ
@@ -202,7 +201,7 @@ modified_unsynced s o x g n = by (lie s x) refl
         (λ (d : s.dirty f ≡ false). simp d)
         (cases_Bool (s.dirty f))
 
-moves_synced : (s : State) (o : ℕ) → Good s → Moves s (synced s o) (Sync o) Nothing
+moves_synced : (s : State) (o : ℕ) → Good s → Moves s (synced s o) (Sync o) None
 moves_synced s o g = record {
   word = λ x. left (no_write x) (content_synced s o x g);
   mark = λ x. ⊎_elim
@@ -218,7 +217,7 @@ moves_synced s o g = record {
     objects i e = cc
 
 -- a state with the same words and marks
-pub moves_like : (s u t : State) (c : Call) (out : Evicted) → Moves s u c out → t.lies ≡ u.lies → t.words ≡ u.words → t.store ≡ u.store → t.dirty ≡ u.dirty → Moves s t c out
+pub moves_like : (s u t : State) (c : Call) (out : Option Evicted) → Moves s u c out → t.lies ≡ u.lies → t.words ≡ u.words → t.store ≡ u.store → t.dirty ≡ u.dirty → Moves s t c out
 moves_like s u t c out m lies words store dirty = record { word = λ x. word x (m.word x); mark = λ x. mark x (m.mark x) }
   where
     same_word : (x : ℕ) → content t x ≡ content u x

@@ -1,13 +1,12 @@
 -- The law over every run of calls, in terms of the calls, their replies and what is seen after each. Assumes nothing.
 --
 -- A history is a list of moments, the latest first: the moments before one are those behind it.
-use Rattle.std.specs.Prelude.{◌≡◌, ℕ, ◌+◌, ◌*◌, ◌/◌, ◌<◌, Bool, true, false, cond, List, [], ◌∷◌, map, Some, Ok, Err, ◌≢◌, slice_index}
+use Rattle.std.specs.Prelude.{◌≡◌, ℕ, ◌+◌, ◌*◌, ◌/◌, ◌<◌, Bool, true, false, cond, List, [], ◌∷◌, map, Some, None, Option, Ok, Err, ◌≢◌, slice_index}
 use Rattle.calls.specs.declared.Call.{Call}
 use Rattle.calls.specs.declared.Call.TheVariants.{Map, Unmap, Protect, Read, Write, Wire, Unwire, Sync}
 use Rattle.rules.specs.declared.answer.Kind.{Kind}
 use Rattle.rules.specs.declared.answer.Kind.TheVariants.{Hit, Soft, Hard}
 use Rattle.rules.specs.declared.answer.Evicted.{Evicted}
-use Rattle.rules.specs.declared.answer.Evicted.TheVariants.{Nothing, Page}
 use Rattle.rules.specs.declared.answer.Report.{Report}
 use Rattle.rules.specs.declared.answer.Reading.{Reading}
 use Rattle.rules.specs.declared.answer.Answer.TheVariants.{Done, Read as ReadAnswer, Wrote, Wired, Synced}
@@ -51,9 +50,9 @@ pub data LastWord (x : ℕ) : List Moment → ℕ → Type 0 where
   earlier : {m : Moment} {h : List Moment} {w : ℕ} → ((v : ℕ) → Writes m h x v → ⊥) → LastWord x h w → LastWord x (m ∷ h) w
 
 -- object page x is evicted, or its object is synced
-abbrev pub IsEvicted : ℕ → Evicted → Type 0
-IsEvicted x Nothing = ⊥
-IsEvicted x (Page object index stored) = 256 * object + index ≡ x
+abbrev pub IsEvicted : ℕ → Option Evicted → Type 0
+IsEvicted x None = ⊥
+IsEvicted x (Some e) = 256 * e.object + e.index ≡ x
 
 abbrev pub Evicts : Moment → ℕ → Type 0
 Evicts m x = IsEvicted x (evicted_in m.reply)

@@ -1,24 +1,18 @@
 -- The first element of a list that passes a test. Assumes nothing.
-use Rattle.std.specs.Prelude.{ℕ, suc, Bool, false, cond, ◌||◌, List, [], ◌∷◌, Some, None, Option}
+use Rattle.std.specs.Prelude.{ℕ, Bool, cond, List, [], ◌∷◌, Option}
+use Rattle.std.specs.List.{find, position, list_any}
 
 -- the element
 unfoldable pub first : {A : Type 0} → (A → Bool) → List A → Option A
-first test [] = None
-first test (x ∷ xs) = cond (test x) (Some x) (first test xs)
+first = find
 
 -- its position
-abbrev pub further : Option ℕ → Option ℕ
-further None = None
-further (Some i) = Some (suc i)
-
 unfoldable pub place : {A : Type 0} → (A → Bool) → List A → Option ℕ
-place test [] = None
-place test (x ∷ xs) = cond (test x) (Some 0) (further (place test xs))
+place = position
 
 -- whether there is one
 unfoldable pub any : {A : Type 0} → (A → Bool) → List A → Bool
-any test [] = false
-any test (x ∷ xs) = test x || any test xs
+any = list_any
 
 -- the list without it
 unfoldable pub without : {A : Type 0} → (A → Bool) → List A → List A

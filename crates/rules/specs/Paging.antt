@@ -4,7 +4,6 @@ use Rattle.std.specs.List.{range_with_len}
 use Rattle.pmap.specs.Meaning.{marked, unmarked}
 use Rattle.pmap.specs.Tally.{tally}
 use Rattle.rules.specs.declared.answer.Evicted.{Evicted}
-use Rattle.rules.specs.declared.answer.Evicted.TheVariants.{Nothing, Page}
 use Rattle.rules.specs.Lists.{first, without}
 use Rattle.rules.specs.State.{State, lie, is_modified}
 use Rattle.rules.specs.Refusals.{free}
@@ -32,7 +31,7 @@ evict s f = record {
 }
 
 abbrev pub evicted_page : State → ℕ → Evicted
-evicted_page s f = Page (owner s f / 256) (owner s f % 256) (s.dirty f)
+evicted_page s f = record { object = owner s f / 256; index = owner s f % 256; stored = s.dirty f }
 
 -- object page x is loaded from the backing store into frame f
 abbrev pub load : State → ℕ → ℕ → State
@@ -54,9 +53,9 @@ abbrev pub replaced : State → ℕ → Option ℕ → State
 replaced s x None = s
 replaced s x (Some f) = load (evict s f) x f
 
-abbrev pub replaced_page : State → Option ℕ → Evicted
-replaced_page s None = Nothing
-replaced_page s (Some f) = evicted_page s f
+abbrev pub replaced_page : State → Option ℕ → Option Evicted
+replaced_page s None = None
+replaced_page s (Some f) = Some (evicted_page s f)
 
 abbrev pub unused : State → Bool
 unused s = nat_lt (length s.queue) s.frames
@@ -64,8 +63,8 @@ unused s = nat_lt (length s.queue) s.frames
 abbrev pub brought : State → ℕ → State
 brought s x = cond (unused s) (load s x (length s.queue)) (replaced s x (victim s))
 
-abbrev pub brought_out : State → Evicted
-brought_out s = cond (unused s) Nothing (replaced_page s (victim s))
+abbrev pub brought_out : State → Option Evicted
+brought_out s = cond (unused s) None (replaced_page s (victim s))
 
 -- the state in which x is resident, and what that evicted
 abbrev pub resident_by : State → ℕ → Option ℕ → State
@@ -75,9 +74,9 @@ resident_by s x (Some f) = s
 abbrev pub resident : State → ℕ → State
 resident s x = resident_by s x (lie s x)
 
-abbrev pub evicted_by : State → Option ℕ → Evicted
+abbrev pub evicted_by : State → Option ℕ → Option Evicted
 evicted_by s None = brought_out s
-evicted_by s (Some f) = Nothing
+evicted_by s (Some f) = None
 
 -- a word is written to the frame of a resident page
 abbrev pub written_to : State → ℕ → Option ℕ → State

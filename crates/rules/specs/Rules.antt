@@ -10,7 +10,6 @@ use Rattle.calls.specs.declared.Call.TheVariants.{Map, Unmap, Protect, Read, Wri
 use Rattle.rules.specs.declared.answer.Kind.{Kind}
 use Rattle.rules.specs.declared.answer.Kind.TheVariants.{Hit, Soft, Hard}
 use Rattle.rules.specs.declared.answer.Evicted.{Evicted}
-use Rattle.rules.specs.declared.answer.Evicted.TheVariants.{Nothing, Page}
 use Rattle.rules.specs.declared.answer.Report.{Report}
 use Rattle.rules.specs.declared.answer.Reading.{Reading}
 use Rattle.rules.specs.declared.answer.Wiring.{Wiring}
@@ -124,13 +123,13 @@ is_kind Hard Hit = false
 is_kind Hard Soft = false
 is_kind Hard Hard = true
 
-abbrev pub evictions : Evicted → ℕ
-evictions Nothing = 0
-evictions (Page o i stored) = 1
+abbrev pub evictions : Option Evicted → ℕ
+evictions None = 0
+evictions (Some e) = 1
 
-abbrev pub savings : Evicted → ℕ
-savings Nothing = 0
-savings (Page o i stored) = one stored
+abbrev pub savings : Option Evicted → ℕ
+savings None = 0
+savings (Some e) = one e.stored
 
 -- a reply of an access of a kind
 abbrev pub of_kind : Kind → Reply → ℕ
@@ -149,13 +148,13 @@ loads_in (Ok (Wrote r)) = one (is_kind Hard r.kind)
 loads_in (Ok (Wired w)) = one w.loaded
 loads_in (Ok (Synced n)) = 0
 
-abbrev pub evicted_in : Reply → Evicted
-evicted_in (Err e) = Nothing
-evicted_in (Ok Done) = Nothing
+abbrev pub evicted_in : Reply → Option Evicted
+evicted_in (Err e) = None
+evicted_in (Ok Done) = None
 evicted_in (Ok (ReadAnswer r)) = r.report.evicted
 evicted_in (Ok (Wrote r)) = r.evicted
 evicted_in (Ok (Wired w)) = w.evicted
-evicted_in (Ok (Synced n)) = Nothing
+evicted_in (Ok (Synced n)) = None
 
 abbrev pub stored_in : Reply → ℕ
 stored_in (Err e) = 0

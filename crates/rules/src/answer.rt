@@ -1,5 +1,9 @@
 // What the calls of the memory answer.
+ghost use Rattle.std.specs.Prelude.{Some};
+ghost use Rattle.rules.specs.Kinds.{kind_words};
+
 use refusal::memory::MemoryRefusal;
+use std::fmt;
 
 // How an accepted read or write went.
 #[derive(Clone, Copy, PartialEq, Eq, Debug)]
@@ -12,18 +16,31 @@ pub enum Kind {
     Hard,
 }
 
+impl fmt::Display for Kind {
+    ghost output = { λ kind. Some (kind_words kind) };
+
+    fn fmt<W: fmt::Write>(&self, f: &mut fmt::Formatter<W>) -> fmt::Result {
+        f.write_str(match self {
+            Kind::Hit => "hit",
+            Kind::Soft => "soft fault",
+            Kind::Hard => "hard fault",
+        })
+    }
+}
+
 // The object page that made room, and whether its word went to the backing store.
 #[derive(Clone, Copy, PartialEq, Eq, Debug)]
-pub enum Evicted {
-    Nothing,
-    Page { object: u8, index: u8, stored: bool },
+pub struct Evicted {
+    pub object: u8,
+    pub index: u8,
+    pub stored: bool,
 }
 
 // What an accepted read or write did.
 #[derive(Clone, Copy, PartialEq, Eq, Debug)]
 pub struct Report {
     pub kind: Kind,
-    pub evicted: Evicted,
+    pub evicted: Option<Evicted>,
 }
 
 // A read's report and its word.
@@ -37,7 +54,7 @@ pub struct Reading {
 #[derive(Clone, Copy, PartialEq, Eq, Debug)]
 pub struct Wiring {
     pub loaded: bool,
-    pub evicted: Evicted,
+    pub evicted: Option<Evicted>,
 }
 
 #[derive(Clone, Copy, PartialEq, Eq, Debug)]

@@ -1,5 +1,5 @@
 // What the memory counts.
-#[derive(Clone, Copy, PartialEq, Eq, Debug)]
+#[derive(Clone, Copy, PartialEq, Eq, Default, Debug)]
 pub struct Counts {
     pub calls: u32,
     pub refused: u32,

@@ -1,7 +1,7 @@
 // What the memory keeps records of.
 
 // Pages of a space that stand for pages of an object: page p for the index offset + p - first.
-#[derive(Clone, Copy)]
+#[derive(Clone, Copy, PartialEq, Eq, Debug)]
 pub struct Region {
     pub space: u8,
     pub first: u32,
@@ -12,7 +12,7 @@ pub struct Region {
 }
 
 // A wired place, and the frame that it is wired to.
-#[derive(Clone, Copy)]
+#[derive(Clone, Copy, PartialEq, Eq, Debug)]
 pub struct WiredPlace {
     pub space: u8,
     pub page: u32,

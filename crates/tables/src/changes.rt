@@ -9,7 +9,6 @@ ghost use Rattle.rules.specs.Paging.{load as loaded};
 ghost use Rattle.rules.specs.Rules.{with_regions, with_wired, with_protection};
 ghost use Rattle.tables.specs.Held.{state_of, saved_to, released, word_written};
 
-use crate::searches::find_wired;
 use crate::table::Tables;
 use rules::region::{Region, WiredPlace};
 
@@ -44,8 +43,8 @@ impl Tables {
         requires { (frame < 256) × (slice_index self.old.owners.items frame < 2048) }
         ensures { (d : ℕ → Bool) (n : Counts) → state_of self.new d n ≡ saved_to (state_of self.old d n) frame }
     {
-        let x = self.owners[frame as usize] as usize;
-        self.store[x] = self.words[frame as usize];
+        let x = usize::from(self.owners[usize::from(frame)]);
+        self.store[x] = self.words[usize::from(frame)];
     }
 
     // The page of the frame at a position of the queue is resident no more.
@@ -54,7 +53,7 @@ impl Tables {
         ensures { (d : ℕ → Bool) (n : Counts) → state_of self.new d n ≡ released (state_of self.old d n) at }
     {
         let frame = self.queue.remove(at);
-        let x = self.owners[frame as usize] as usize;
+        let x = usize::from(self.owners[usize::from(frame)]);
         self.lies[x] = None;
     }
 
@@ -63,9 +62,9 @@ impl Tables {
         requires { (x < 2048) × ((frame < 256) × (vec_len self.old.queue < 256)) }
         ensures { (d : ℕ → Bool) (n : Counts) → state_of self.new d n ≡ loaded (state_of self.old d n) x frame }
     {
-        self.words[frame as usize] = self.store[x];
+        self.words[usize::from(frame)] = self.store[x];
         self.lies[x] = Some(frame);
-        self.owners[frame as usize] = x as u16;
+        self.owners[usize::from(frame)] = x as u16;
         self.queue.push_reserved(frame);
     }
 
@@ -73,7 +72,7 @@ impl Tables {
         requires { frame < 256 }
         ensures { (d : ℕ → Bool) (n : Counts) → state_of self.new d n ≡ word_written (state_of self.old d n) frame word }
     {
-        self.words[frame as usize] = word;
+        self.words[usize::from(frame)] = word;
     }
 
     pub fn add_wired(&mut self, place: WiredPlace)
@@ -87,7 +86,7 @@ impl Tables {
     pub fn remove_wired(&mut self, space: u8, page: u32)
         ensures { (d : ℕ → Bool) (n : Counts) → state_of self.new d n ≡ with_wired (state_of self.old d n) (without (is_place space page) self.old.wired.items) }
     {
-        if let Some(at) = find_wired(&self.wired, space, page) {
+        if let Some(at) = self.wired_at(space, page) {
             self.wired.remove(at);
         }
     }

@@ -1,31 +1,17 @@
 // New tables.
-ghost use Rattle.std.specs.Prelude.{◌≡◌, false, replicate, IfOk, vec_len};
+ghost use Rattle.std.specs.Prelude.{◌≡◌, false, IfOk, vec_len};
 ghost use Rattle.rules.specs.State.{fresh, no_counts, starting_words};
 ghost use Rattle.tables.specs.Held.{state_of};
 
 use crate::table::Tables;
 use std::alloc::{AllocError, Global};
 
-// A value `count` times over.
-fn repeated<T: Copy>(heap: Global, value: T, count: usize) -> Result<Vec<T>, AllocError>
-    ensures items { IfOk result (λ v. v.items ≡ replicate count value) }
-    ensures len { IfOk result (λ v. vec_len v ≡ count) }
-{
-    let mut v = Vec::new(heap);
-    v.resize(count, value)?;
-    Ok(v)
-}
-
 // The backing store of a new memory: each object page has its number.
 fn starting_words(heap: Global) -> Result<Vec<u32>, AllocError>
     ensures items { IfOk result (λ v. v.items ≡ starting_words) }
     ensures len { IfOk result (λ v. vec_len v ≡ 2048) }
 {
-    let mut words = Vec::new(heap);
-    for x in 0..2048u32 {
-        words.push(x)?;
-    }
-    Ok(words)
+    (0..2048u32).collect(heap)
 }
 
 impl Tables {
@@ -36,10 +22,10 @@ impl Tables {
         Ok(Tables {
             frames,
             regions: Vec::with_capacity(heap, 64)?,
-            lies: repeated(heap, None, 2048)?,
-            owners: repeated(heap, 0, 256)?,
+            lies: vec![in heap; None; 2048]?,
+            owners: vec![in heap; 0; 256]?,
             queue: Vec::with_capacity(heap, 256)?,
-            words: repeated(heap, 0, 256)?,
+            words: vec![in heap; 0; 256]?,
             store: starting_words(heap)?,
             wired: Vec::with_capacity(heap, 8)?,
         })

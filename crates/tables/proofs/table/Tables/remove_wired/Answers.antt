@@ -1,16 +1,10 @@
-use Rattle.std.proofs.Common.{◌≡◌, Some, None, vec_items, sym, ap, ◌∙◌, arith}
+use Rattle.std.proofs.Common.{◌≡◌, Some, None, vec_items, sym, ap, ◌∙◌}
 use Rattle.rules.specs.Lists.{place}
 use Rattle.rules.specs.Refusals.{is_place}
 use Rattle.rules.specs.Rules.{with_wired}
 use Rattle.tables.specs.Held.{state_of}
-use Rattle.tables.proofs.Positions.{place_inside, removed_is, nowhere_without}
+use Rattle.tables.proofs.Positions.{removed_is, nowhere_without}
 use Rattle.tables.proofs.table.Tables.remove_wired.Goals as goal
-
-pub remove-requires : goal.remove-requires
-remove-requires c =
-    let test = is_place c.args.space c.args.page in
-    let e : place test (vec_items c.args.self.now.wired) ≡ Some c.in-Some.at = cc in
-    omega (arith, place_inside test (vec_items c.args.self.now.wired) c.in-Some.at e, c.args.self.now.wired.ok.0)
 
 pub returns-in-Some : goal.returns-in-Some
 returns-in-Some c d n =
