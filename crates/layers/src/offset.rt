@@ -17,6 +17,7 @@ pub struct Offset<P> {
 }
 
 // An offset out of range, and the pmap that was to be shifted, as it was.
+// No NotMade of the refusals: those tell a refusal of a file.
 #[derive(Drop)]
 pub struct OffsetRefused<P> {
     pub refusal: PmapRefusal,
@@ -55,13 +56,13 @@ impl<P> Offset<P> {
 }
 
 impl<P: Pmap> Pmap for Offset<P> {
-    ghost view = { λ s. shifted s.by (P.Pmap.view s.below) };
+    ghost view = { λ s. shifted s.by (P.view s.below) };
 
-    ghost kept = { λ s. P.Pmap.kept s.below };
+    ghost kept = { λ s. P.kept s.below };
 
     fn clear(&mut self)
-        ensures meaning { Cleared (shifted self.new.by (P.Pmap.view self.new.below)) }
-        ensures kept { P.Pmap.kept self.new.below }
+        ensures meaning { Cleared (shifted self.new.by (P.view self.new.below)) }
+        ensures kept { P.kept self.new.below }
         ensures by { self.new.by ≡ self.old.by }
     {
         self.below.clear();

@@ -1,11 +1,10 @@
 -- What the slots hold after a change of every slot, and after an entry is put into one. Assumes nothing.
-use Rattle.std.proofs.Common.{◌≡◌, ℕ, zero, suc, ◌<◌, Bool, true, false, cond, not, ◌||◌, eqb, ◌⊎◌, List, [], ◌∷◌, map, length, get_or, set, Some, None, Option, sym, refl, ap, ◌∙◌, subst, inl, inr, ⊎_elim, arith, length-set}
+use Rattle.std.proofs.Common.{◌≡◌, ℕ, zero, suc, ◌<◌, Bool, true, false, cond, not, ◌&&◌, ◌||◌, eqb, ◌⊎◌, List, [], ◌∷◌, map, length, get_or, set, Some, None, Option, sym, refl, ap, ◌∙◌, subst, inl, inr, ⊎_elim, arith, length-set}
+use Rattle.std.proofs.Math.ListN.{get_or-map}
 use Rattle.std.proofs.lemmas.List.{length-map, get_or-set_same, get_or-set_other}
 use Rattle.std.proofs.lemmas.Bool.{cases_Bool, cases_eq, cond-true, cond-false, and_parts, and_from, eqb-true, eq-eqb, both_ways}
 use Rattle.minimal.specs.declared.entry.Entry.{Entry}
-use Rattle.minimal.specs.declared.entry.Change.{Change}
-use Rattle.minimal.specs.declared.entry.Change.TheVariants.{Vacate, Remove, Lower, Drop}
-use Rattle.minimal.specs.Entries.{is_at, changed, found, Fits, Alone, Sound}
+use Rattle.minimal.specs.Entries.{is_at, after, vacated, removed, lowered, dropped, found, Fits, Alone, Sound}
 use Rattle.minimal.proofs.Search.{found_none, found_hit, found_miss}
 
 -- at one slot
@@ -13,44 +12,34 @@ use Rattle.minimal.proofs.Search.{found_none, found_hit, found_miss}
 pub one_place : (x : Option Entry) (a b s p : ℕ) → is_at x a b ≡ true → is_at x s p ≡ true → (a ≡ s) × (b ≡ p)
 one_place None a b s p h k = absurd (both_ways false refl h)
 one_place (Some e) a b s p h k =
-    let x = and_parts (eqb e.space a) (eqb e.page b) h in
-    let y = and_parts (eqb e.space s) (eqb e.page p) k in
-    (sym (eqb-true e.space a x.0) ∙ eqb-true e.space s y.0, sym (eqb-true e.page b x.1) ∙ eqb-true e.page p y.1)
+    let x = and_parts (eqb e.place.space a) (eqb e.place.page b) h in
+    let y = and_parts (eqb e.place.space s) (eqb e.place.page p) k in
+    (sym (eqb-true e.place.space a x.0) ∙ eqb-true e.place.space s y.0, sym (eqb-true e.place.page b x.1) ∙ eqb-true e.place.page p y.1)
 
 cond_cases : {A : Type 0} (b : Bool) (x y : A) → (cond b x y ≡ x) ⊎ (cond b x y ≡ y)
 cond_cases true x y = inl refl
 cond_cases false x y = inr refl
 
--- a change empties a slot, or leaves its place as it is
-changed_keeps : (c : Change) (x : Option Entry) → (changed c x ≡ None) ⊎ ((a b : ℕ) → is_at (changed c x) a b ≡ is_at x a b)
-changed_keeps c None = inl refl
-changed_keeps (Vacate s p) (Some e) =
-    ⊎_elim (λ q. inl q) (λ q. inr (λ a b. ap (λ y. is_at y a b) q)) (cond_cases (is_at (Some e) s p || not e.wired) None (Some e))
-changed_keeps (Remove s p) (Some e) =
-    ⊎_elim (λ q. inl q) (λ q. inr (λ a b. ap (λ y. is_at y a b) q)) (cond_cases (is_at (Some e) s p) None (Some e))
-changed_keeps (Lower s p) (Some e) =
-    inr (λ a b. ⊎_elim (λ q. ap (λ y. is_at y a b) q) (λ q. ap (λ y. is_at y a b) q) (cond_cases (is_at (Some e) s p) (Some (record { space = e.space; page = e.page; frame = e.frame; protection = 1; wired = e.wired })) (Some e)))
-changed_keeps (Drop f) (Some e) =
-    ⊎_elim (λ q. inl q) (λ q. inr (λ a b. ap (λ y. is_at y a b) q)) (cond_cases (eqb e.frame f) None (Some e))
+-- a change empties a slot, or leaves the place and the kind of its entry as they are
+pub record Tame (change : Entry → Option Entry) : Type 0 where
+  pub each : (e : Entry) → (change e ≡ None) ⊎ ((d : Entry) × (change e ≡ Some d) × (d.place ≡ e.place) × (d.wired ≡ e.wired))
 
-changed_at : (c : Change) (x : Option Entry) (a b : ℕ) → is_at (changed c x) a b ≡ true → is_at x a b ≡ true
-changed_at c x a b h = ⊎_elim (λ q. absurd (both_ways false refl (sym (ap (λ y. is_at y a b) q) ∙ h))) (λ q. sym (q a b) ∙ h) (changed_keeps c x)
+pub tame_vacated : (s p : ℕ) → Tame (vacated s p)
+tame_vacated s p = record { each = λ e. ⊎_elim (λ q. inl q) (λ q. inr (e, q, refl, refl)) (cond_cases (is_at (Some e) s p || not e.wired) None (Some e)) }
 
-changed_fits : (c : Change) (k : ℕ) (x : Option Entry) → Fits k x → Fits k (changed c x)
-changed_fits c k None h = tt
-changed_fits (Vacate s p) k (Some e) h =
-    ⊎_elim (λ q. subst (Fits k) (sym q) tt) (λ q. subst (Fits k) (sym q) h) (cond_cases (is_at (Some e) s p || not e.wired) None (Some e))
-changed_fits (Remove s p) k (Some e) h =
-    ⊎_elim (λ q. subst (Fits k) (sym q) tt) (λ q. subst (Fits k) (sym q) h) (cond_cases (is_at (Some e) s p) None (Some e))
-changed_fits (Lower s p) k (Some e) h =
-    ⊎_elim (λ q. subst (Fits k) (sym q) h) (λ q. subst (Fits k) (sym q) h) (cond_cases (is_at (Some e) s p) (Some (record { space = e.space; page = e.page; frame = e.frame; protection = 1; wired = e.wired })) (Some e))
-changed_fits (Drop f) k (Some e) h =
-    ⊎_elim (λ q. subst (Fits k) (sym q) tt) (λ q. subst (Fits k) (sym q) h) (cond_cases (eqb e.frame f) None (Some e))
+pub tame_removed : (s p : ℕ) → Tame (removed s p)
+tame_removed s p = record { each = λ e. ⊎_elim (λ q. inl q) (λ q. inr (e, q, refl, refl)) (cond_cases (is_at (Some e) s p) None (Some e)) }
 
-pub get_d_changed : (c : Change) (xs : List (Option Entry)) (k : ℕ) → get_or (map (changed c) xs) k None ≡ changed c (get_or xs k None)
-get_d_changed c [] k = refl
-get_d_changed c (x ∷ xs) zero = refl
-get_d_changed c (x ∷ xs) (suc k) = get_d_changed c xs k
+pub tame_lowered : (s p : ℕ) → Tame (lowered s p)
+tame_lowered s p =
+    record {
+      each = λ e.
+          let low : Entry = record { place = e.place; frame = e.frame; protection = 1; wired = e.wired } in
+          ⊎_elim (λ q. inr (low, q, refl, refl)) (λ q. inr (e, q, refl, refl)) (cond_cases (is_at (Some e) s p) (Some low) (Some e));
+    }
+
+pub tame_dropped : (f : ℕ) → Tame (dropped f)
+tame_dropped f = record { each = λ e. ⊎_elim (λ q. inl q) (λ q. inr (e, q, refl, refl)) (cond_cases (eqb e.frame.number f) None (Some e)) }
 
 -- the slot of a place
 
@@ -110,31 +99,47 @@ alone_head x xs s p alone h =
     (found_at xs s p)
 
 -- after a change of every slot
-pub found_changed : (c : Change) (xs : List (Option Entry)) (s p : ℕ) → Alone xs → found (map (changed c) xs) s p ≡ changed c (found xs s p)
-found_changed c [] s p alone = found_none s p ∙ sym (ap (changed c) (found_none s p))
-found_changed c (x ∷ xs) s p alone =
-    let rest = found_changed c xs s p (alone_tail x xs alone) in
-    ⊎_elim
-    (λ h. ⊎_elim
-    (λ q. found_miss (changed c x) (map (changed c) xs) s p (ap (λ y. is_at y s p) q) ∙ rest ∙ ap (changed c) (alone_head x xs s p alone h) ∙ sym q ∙ ap (changed c) (sym (found_hit x xs s p h)))
-    (λ q. found_hit (changed c x) (map (changed c) xs) s p (q s p ∙ h) ∙ ap (changed c) (sym (found_hit x xs s p h)))
-    (changed_keeps c x))
-    (λ h. found_miss (changed c x) (map (changed c) xs) s p (not_at h) ∙ rest ∙ ap (changed c) (sym (found_miss x xs s p h)))
-    (cases_Bool (is_at x s p))
-  where
-    not_at : is_at x s p ≡ false → is_at (changed c x) s p ≡ false
-    not_at h = ⊎_elim (λ q. absurd (both_ways (is_at x s p) h (changed_at c x s p q))) (λ q. q) (cases_Bool (is_at (changed c x) s p))
+module _ (change : Entry → Option Entry) (tame : Tame change) where
+  keeps : (x : Option Entry) → (after change x ≡ None) ⊎ ((a b : ℕ) → is_at (after change x) a b ≡ is_at x a b)
+  keeps None = inl refl
+  keeps (Some e) =
+      ⊎_elim
+      (λ q. inl q)
+      (λ d. inr (λ a b. ap (λ y. is_at y a b) d.1 ∙ ap (λ z. eqb z.space a && eqb z.page b) d.2))
+      (tame.each e)
 
-pub changed_sound : (c : Change) (xs : List (Option Entry)) → Sound xs → Sound (map (changed c) xs)
-changed_sound c xs sound =
-    record {
-      long = length-map xs (changed c) ∙ sound.long;
-      alone = λ i j s p h k. sound.alone i j s p (before i s p h) (before j s p k);
-      fits = λ k. subst (Fits k) (sym (get_d_changed c xs k)) (changed_fits c k (get_or xs k None) (sound.fits k));
-    }
-  where
-    before : (i s p : ℕ) → is_at (get_or (map (changed c) xs) i None) s p ≡ true → is_at (get_or xs i None) s p ≡ true
-    before i s p h = changed_at c (get_or xs i None) s p (sym (ap (λ y. is_at y s p) (get_d_changed c xs i)) ∙ h)
+  was_at : (x : Option Entry) (a b : ℕ) → is_at (after change x) a b ≡ true → is_at x a b ≡ true
+  was_at x a b h = ⊎_elim (λ q. absurd (both_ways false refl (sym (ap (λ y. is_at y a b) q) ∙ h))) (λ q. sym (q a b) ∙ h) (keeps x)
+
+  still_fits : (k : ℕ) (x : Option Entry) → Fits k x → Fits k (after change x)
+  still_fits k None h = refl
+  still_fits k (Some e) h = ⊎_elim (λ q. subst (Fits k) (sym q) refl) (λ d. subst (Fits k) (sym d.1) (d.3 ∙ h)) (tame.each e)
+
+  pub found_after : (xs : List (Option Entry)) (s p : ℕ) → Alone xs → found (map (after change) xs) s p ≡ after change (found xs s p)
+  found_after [] s p alone = found_none s p ∙ sym (ap (after change) (found_none s p))
+  found_after (x ∷ xs) s p alone =
+      let rest = found_after xs s p (alone_tail x xs alone) in
+      ⊎_elim
+      (λ h. ⊎_elim
+      (λ q. found_miss (after change x) (map (after change) xs) s p (ap (λ y. is_at y s p) q) ∙ rest ∙ ap (after change) (alone_head x xs s p alone h) ∙ sym q ∙ ap (after change) (sym (found_hit x xs s p h)))
+      (λ q. found_hit (after change x) (map (after change) xs) s p (q s p ∙ h) ∙ ap (after change) (sym (found_hit x xs s p h)))
+      (keeps x))
+      (λ h. found_miss (after change x) (map (after change) xs) s p (not_at h) ∙ rest ∙ ap (after change) (sym (found_miss x xs s p h)))
+      (cases_Bool (is_at x s p))
+    where
+      not_at : is_at x s p ≡ false → is_at (after change x) s p ≡ false
+      not_at h = ⊎_elim (λ q. absurd (both_ways (is_at x s p) h (was_at x s p q))) (λ q. q) (cases_Bool (is_at (after change x) s p))
+
+  pub after_sound : (xs : List (Option Entry)) → Sound xs → Sound (map (after change) xs)
+  after_sound xs sound =
+      record {
+        long = length-map xs (after change) ∙ sound.long;
+        alone = λ i j s p h k. sound.alone i j s p (before i s p h) (before j s p k);
+        fits = λ k. subst (Fits k) (sym (get_or-map (after change) xs k None)) (still_fits k (get_or xs k None) (sound.fits k));
+      }
+    where
+      before : (i s p : ℕ) → is_at (get_or (map (after change) xs) i None) s p ≡ true → is_at (get_or xs i None) s p ≡ true
+      before i s p h = was_at (get_or xs i None) s p (sym (ap (λ y. is_at y s p) (get_or-map (after change) xs i None)) ∙ h)
 
 -- after an entry is put into an empty slot, at a place that no slot holds
 
@@ -159,7 +164,7 @@ found_put (x ∷ xs) (suc i) e s p h free none =
         (λ r. r)
         (cases_Bool (is_at (Some e) s p))
 
-pub put_sound : (xs : List (Option Entry)) (i : ℕ) (e : Entry) → Sound xs → i < 9 → Fits i (Some e) → found xs e.space e.page ≡ None → Sound (set xs i (Some e))
+pub put_sound : (xs : List (Option Entry)) (i : ℕ) (e : Entry) → Sound xs → i < 9 → Fits i (Some e) → found xs e.place.space e.place.page ≡ None → Sound (set xs i (Some e))
 put_sound xs i e sound h fits none =
     record {
       long = length-set xs i (Some e) ∙ sound.long;
@@ -184,7 +189,7 @@ put_sound xs i e sound h fits none =
 
     twice : (k s p : ℕ) → is_at (Some e) s p ≡ true → is_at (get_or xs k None) s p ≡ true → ⊥
     twice k s p x y =
-        let own = and_from (eqb e.space e.space) (eqb e.page e.page) (eq-eqb e.space e.space refl) (eq-eqb e.page e.page refl) in
-        let same = one_place (Some e) s p e.space e.page x own in
-        let there = subst (λ a. is_at (get_or xs k None) a e.page ≡ true) same.0 (subst (λ b. is_at (get_or xs k None) s b ≡ true) same.1 y) in
-        both_ways false refl (sym (ap (λ z. is_at z e.space e.page) none) ∙ found_some xs k e.space e.page there)
+        let own = and_from (eqb e.place.space e.place.space) (eqb e.place.page e.place.page) (eq-eqb e.place.space e.place.space refl) (eq-eqb e.place.page e.place.page refl) in
+        let same = one_place (Some e) s p e.place.space e.place.page x own in
+        let there = subst (λ a. is_at (get_or xs k None) a e.place.page ≡ true) same.0 (subst (λ b. is_at (get_or xs k None) s b ≡ true) same.1 y) in
+        both_ways false refl (sym (ap (λ z. is_at z e.place.space e.place.page) none) ∙ found_some xs k e.place.space e.place.page there)

@@ -2,25 +2,36 @@
 use Rattle.std.specs.Prelude.{◌≡◌, ℕ, ◌<◌, Bool, true, false, cond, not, ◌&&◌, ◌||◌, List, [], ◌∷◌, length, Some, None, Option, ◌==◌, nat_lt, slice_index_or}
 use Rattle.pmap.specs.Meaning.{Mapping, View, is_wired, Elsewhere}
 use Rattle.minimal.specs.declared.entry.Entry.{Entry}
-use Rattle.minimal.specs.declared.entry.Change.{Change}
-use Rattle.minimal.specs.declared.entry.Change.TheVariants.{Vacate, Remove, Lower, Drop}
 
 abbrev pub is_at : Option Entry → ℕ → ℕ → Bool
 is_at None s p = false
-is_at (Some e) s p = e.space == s && e.page == p
+is_at (Some e) s p = e.place.space == s && e.place.page == p
 
 abbrev pub mapping_of : Option Entry → Option Mapping
 mapping_of None = None
-mapping_of (Some e) = Some (e.frame, e.protection, e.wired)
+mapping_of (Some e) = Some (e.frame.number, e.protection, e.wired)
 
--- a slot after a change
-abbrev pub changed : Change → Option Entry → Option Entry
-changed c None = None
-changed (Vacate s p) (Some e) = cond (is_at (Some e) s p || not e.wired) None (Some e)
-changed (Remove s p) (Some e) = cond (is_at (Some e) s p) None (Some e)
-changed (Lower s p) (Some e) =
-    cond (is_at (Some e) s p) (Some (record { space = e.space; page = e.page; frame = e.frame; protection = 1; wired = e.wired })) (Some e)
-changed (Drop f) (Some e) = cond (e.frame == f) None (Some e)
+-- what becomes of an entry: where a place's mapping goes, and so does every unwired one
+abbrev pub vacated : ℕ → ℕ → Entry → Option Entry
+vacated s p e = cond (is_at (Some e) s p || not e.wired) None (Some e)
+
+-- where a place's mapping goes
+abbrev pub removed : ℕ → ℕ → Entry → Option Entry
+removed s p e = cond (is_at (Some e) s p) None (Some e)
+
+-- where a place's mapping is lowered to protection 1
+abbrev pub lowered : ℕ → ℕ → Entry → Option Entry
+lowered s p e =
+    cond (is_at (Some e) s p) (Some (record { place = e.place; frame = e.frame; protection = 1; wired = e.wired })) (Some e)
+
+-- where a frame's mappings go
+abbrev pub dropped : ℕ → Entry → Option Entry
+dropped f e = cond (e.frame.number == f) None (Some e)
+
+-- a slot after its entry has changed
+abbrev pub after : (Entry → Option Entry) → Option Entry → Option Entry
+after change None = None
+after change (Some e) = change e
 
 -- the slot that holds a place, as the first that does, or none
 unfoldable pub found : List (Option Entry) → ℕ → ℕ → Option Entry
@@ -32,14 +43,20 @@ abbrev pub is_room : Option Entry → ℕ → ℕ → Bool
 is_room None s p = true
 is_room (Some e) s p = is_at (Some e) s p
 
+abbrev pub held_in : List (Option Entry) → ℕ → ℕ → Option Mapping
+held_in slots s p = mapping_of (found slots s p)
+
 -- what the pmap holds: at a place the mapping of its slot; modified is a frame whose mark is on
 abbrev pub shown : List (Option Entry) → List Bool → View
-shown slots marks = record { held = λ s p. mapping_of (found slots s p); modified = λ f. slice_index_or marks f false }
+shown slots marks = record { held = held_in slots; modified = λ f. slice_index_or marks f false }
 
 -- the first eight slots are for wired mappings, the ninth is for the latest entry if that is unwired
+abbrev pub is_wired_slot : ℕ → Option Entry → Bool
+is_wired_slot k None = nat_lt k 8
+is_wired_slot k (Some e) = e.wired
+
 abbrev pub Fits : ℕ → Option Entry → Type 0
-Fits k None = Unit {0}
-Fits k (Some e) = (e.wired ≡ nat_lt k 8) × (e.frame < 256)
+Fits k x = is_wired_slot k x ≡ nat_lt k 8
 
 -- no place stands in two slots
 abbrev pub Alone : List (Option Entry) → Type 0
@@ -54,7 +71,7 @@ pub record Sound (slots : List (Option Entry)) : Type 0 where
 pub record Room (slots : List (Option Entry)) (at : ℕ) (e : Entry) : Type 0 where
   pub within : at < 9
   pub fits : Fits at (Some e)
-  pub free : changed (Vacate e.space e.page) (slice_index_or slots at None) ≡ None
+  pub free : after (vacated e.place.space e.place.page) (slice_index_or slots at None) ≡ None
 
 -- only wired mappings are held but at a place
 abbrev pub OnlyWired : View → ℕ → ℕ → Type 0

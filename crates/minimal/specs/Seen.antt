@@ -6,7 +6,7 @@ use Rattle.minimal.specs.declared.table.Minimal.{Minimal}
 use Rattle.minimal.specs.Entries.{shown, OnlyWired}
 
 abbrev pub seen : Minimal → View
-seen t = shown t.slots t.marks
+seen t = shown t.slots.list t.marks
 
 -- unwire forgets all unwired mappings elsewhere, and nothing where no slot holds the place
 abbrev pub UnwireForgets : Minimal → Minimal → ℕ → ℕ → Option Entry → Type 0

@@ -1,26 +1,108 @@
-// Searches and changes of a list of slots.
-ghost use Rattle.std.specs.Prelude.{◌≡◌, map};
-ghost use Rattle.minimal.specs.Entries.{changed, found};
+// The slots: eight for wired mappings and one for the latest entry.
+ghost use Rattle.std.specs.Prelude.{◌≡◌, true, map, take, position, replicate, slice_set, Some as Just, None as Nothing, IfSome, IsNone, ◌↔◌};
+ghost use Rattle.pmap.specs.Meaning.{Crowded};
+ghost use Rattle.minimal.specs.Entries.{after, vacated, removed, lowered, dropped, is_room, found, held_in, Sound, Room};
 
-use crate::entry::{Change, Entry, change_slot, is_at};
+use crate::entry::Entry;
+use pmap::frame::Frame;
+use pmap::place::Place;
+use pmap::range::WIRED_PLACES;
 
-// Makes a change in every slot.
-pub fn change_slots(slots: &mut [Option<Entry>], change: Change)
-    ensures { slots.new ≡ map (changed change) slots.old }
-{
-    for slot in slots.iter_mut() {
-        *slot = change_slot(*slot, change);
-    }
+// the slot of the latest entry; those before it are for wired mappings
+pub const LATEST: usize = WIRED_PLACES;
+
+#[derive(Clone, Copy)]
+pub struct Slots {
+    list: [Option<Entry>; 9],
+    ghost sound: { Sound list },
 }
 
-// The entry of the place.
-pub fn find_entry(slots: &[Option<Entry>], space: u8, page: u32) -> Option<Entry>
-    ensures { result ≡ found slots.now space page }
-{
-    for slot in slots {
-        if is_at(*slot, space, page) {
-            return *slot;
+impl Slots {
+    pub fn new() -> Slots
+        ensures { result.list ≡ replicate 9 Nothing }
+    {
+        Slots { list: [None; 9] }
+    }
+
+    // The entry of the place.
+    pub fn find(&self, place: Place) -> Option<Entry>
+        ensures { result ≡ found self.now.list place.space place.page }
+    {
+        self.list
+            .iter()
+            .find(|slot| slot.is_some_and(|entry| entry.place == place))
+            .copied()
+            .flatten()
+    }
+
+    // The first of the slots for wired mappings that is empty or holds the place.
+    fn find_room(&self, place: Place) -> Option<usize>
+        ensures { result ≡ position (λ slot. is_room slot place.space place.page) (take 8 self.now.list) }
+    {
+        self.list[..WIRED_PLACES]
+            .iter()
+            .position(|slot| slot.is_none_or(|entry| entry.place == place))
+    }
+
+    // The slot that an entry can go into; a wired one finds none where eight other places are wired.
+    pub fn room_for(&self, entry: Entry) -> Option<usize>
+        ensures room { IfSome result (λ at. Room self.now.list at entry) }
+        ensures full { IsNone result ↔ ((entry.wired ≡ true) × Crowded (held_in self.now.list) entry.place.space entry.place.page) }
+    {
+        if entry.wired {
+            self.find_room(entry.place)
+        } else {
+            Some(LATEST)
         }
     }
-    None
+
+    // The mapping of the place goes.
+    pub fn remove(self, place: Place) -> Slots
+        ensures { result.list ≡ map (after (removed place.space place.page)) self.list }
+    {
+        let list = self
+            .list
+            .map(|slot| slot.filter(|entry| entry.place != place));
+        Slots { list }
+    }
+
+    // The mapping of the place is lowered to protection 1.
+    pub fn lower(self, place: Place) -> Slots
+        ensures { result.list ≡ map (after (lowered place.space place.page)) self.list }
+    {
+        let list = self.list.map(|slot| {
+            slot.map(|entry| {
+                if entry.place == place {
+                    Entry {
+                        protection: 1,
+                        ..entry
+                    }
+                } else {
+                    entry
+                }
+            })
+        });
+        Slots { list }
+    }
+
+    // The mappings of the frame go.
+    pub fn drop_frame(self, frame: Frame) -> Slots
+        ensures { result.list ≡ map (after (dropped frame.number)) self.list }
+    {
+        let list = self
+            .list
+            .map(|slot| slot.filter(|entry| entry.frame != frame));
+        Slots { list }
+    }
+
+    // The mapping of an entry's place goes, and so does every unwired one; then the entry stands in a slot.
+    pub fn put(self, at: usize, entry: Entry) -> Slots
+        requires { Room self.list at entry }
+        ensures { result.list ≡ slice_set (map (after (vacated entry.place.space entry.place.page)) self.list) at (Just entry) }
+    {
+        let stays = |held: &Entry| held.wired && held.place != entry.place;
+        let mut list = self.list.map(|slot| slot.filter(stays));
+        list[at] = Some(entry);
+        Slots { list }
+    }
 }

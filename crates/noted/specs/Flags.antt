@@ -3,16 +3,10 @@ use Rattle.std.specs.Prelude.{◌≡◌, ℕ, ◌<◌, Bool, true, false, List, 
 use Rattle.refusal.specs.declared.pmap.PmapRefusal.{PmapRefusal}
 use Rattle.pmap.specs.declared.access.Access.{Access}
 use Rattle.pmap.specs.declared.access.Access.TheVariants.{Hit, Miss}
-use Rattle.pmap.specs.Meaning.{View}
-use Rattle.noted.specs.declared.Noted.{Noted}
 
 -- flag f says whether frame f is modified
 abbrev pub Tell : List Bool → (ℕ → Bool) → Type 0
 Tell flags set = (f : ℕ) → f < 256 → slice_index_or flags f false ≡ set f
-
--- what the pmap below keeps, and that the flags tell its modified set
-abbrev pub Kept : {P : Type 0} → (P → View) → (P → Type 0) → Noted P → Type 0
-Kept view keeps n = keeps n.below × Tell n.flags (view n.below).modified
 
 -- the flags after an access: a write that hits puts the flag of its frame on
 abbrev pub written : List Bool → Bool → Result Access PmapRefusal → List Bool

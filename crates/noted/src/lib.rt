@@ -2,11 +2,12 @@
 
 #![tactic(auto)]
 
-ghost use Rattle.std.specs.Prelude.{◌≡◌, true, false, slice_set};
+ghost use Rattle.std.specs.Prelude.{◌≡◌, true, slice_set};
 ghost use Rattle.pmap.specs.Meaning.{Cleared, Enters, Removes, Lowers, Drops, Unwires, Accesses, Unmarks};
-ghost use Rattle.noted.specs.Flags.{Tell, Kept, written, cleaned};
+ghost use Rattle.noted.specs.Flags.{Tell, written, cleaned};
 
 use pmap::access::Access;
+use pmap::frame::Frame;
 use pmap::interface::Pmap;
 use pmap::range::fits_frame;
 use refusal::pmap::PmapRefusal;
@@ -15,20 +16,20 @@ use refusal::pmap::PmapRefusal;
 pub struct Noted<P: Pmap> {
     below: P,
     flags: [bool; 256],
+    ghost told: { Tell flags (P.view below).modified },
 }
 
 impl<P: Pmap> Noted<P> {
     // Clears the pmap and owns it.
-    pub fn new(below: P) -> Noted<P>
-        ensures meaning { Cleared (P.Pmap.view result.below) }
-        ensures kept { Kept P.Pmap.view P.Pmap.kept result }
+    pub fn new(mut below: P) -> Noted<P>
+        ensures meaning { Cleared (P.view result.below) }
+        ensures kept { P.kept result.below }
     {
-        let mut noted = Noted {
+        below.clear();
+        Noted {
             below,
-            flags: no_flags(),
-        };
-        noted.clear();
-        noted
+            flags: [false; 256],
+        }
     }
 
     pub fn below(&self) -> &P
@@ -36,36 +37,28 @@ impl<P: Pmap> Noted<P> {
     {
         &self.below
     }
+}
 
-    // Puts the flag of a frame on. A number that is no frame has none.
-    fn note(&mut self, frame: u16)
-        ensures below { self.new.below ≡ self.old.below }
-        ensures flags { self.new.flags ≡ slice_set self.old.flags frame true }
-    {
-        if fits_frame(frame) {
-            self.flags[frame as usize] = true;
-        }
+// Puts the flag of a frame on. A number that is no frame has none.
+fn note(flags: &mut [bool; 256], frame: u16)
+    ensures { flags.new ≡ slice_set flags.old frame true }
+{
+    if fits_frame(frame) {
+        flags[usize::from(frame)] = true;
     }
 }
 
-// All flags off.
-fn no_flags() -> [bool; 256]
-    ensures { Tell result (λ _. false) }
-{
-    [false; 256]
-}
-
 impl<P: Pmap> Pmap for Noted<P> {
-    ghost view = { λ s. P.Pmap.view s.below };
+    ghost view = { λ s. P.view s.below };
 
-    ghost kept = { Kept P.Pmap.view P.Pmap.kept };
+    ghost kept = { λ s. P.kept s.below };
 
     fn clear(&mut self)
-        ensures meaning { Cleared (P.Pmap.view self.new.below) }
-        ensures kept { Kept P.Pmap.view P.Pmap.kept self.new }
+        ensures meaning { Cleared (P.view self.new.below) }
+        ensures kept { P.kept self.new.below }
     {
         self.below.clear();
-        self.flags = no_flags();
+        self.flags = [false; 256];
     }
 
     fn enter(
@@ -76,60 +69,60 @@ impl<P: Pmap> Pmap for Noted<P> {
         protection: u8,
         wired: bool,
     ) -> Result<(), PmapRefusal>
-        requires { Kept P.Pmap.view P.Pmap.kept self.old }
-        ensures meaning { Enters (P.Pmap.view self.old.below) (P.Pmap.view self.new.below) space page frame protection wired result }
-        ensures kept { Kept P.Pmap.view P.Pmap.kept self.new }
+        requires { P.kept self.old.below }
+        ensures meaning { Enters (P.view self.old.below) (P.view self.new.below) space page frame protection wired result }
+        ensures kept { P.kept self.new.below }
         ensures flags { self.new.flags ≡ self.old.flags }
     {
         self.below.enter(space, page, frame, protection, wired)
     }
 
     fn remove(&mut self, space: u8, page: u32) -> Result<(), PmapRefusal>
-        requires { Kept P.Pmap.view P.Pmap.kept self.old }
-        ensures meaning { Removes (P.Pmap.view self.old.below) (P.Pmap.view self.new.below) space page result }
-        ensures kept { Kept P.Pmap.view P.Pmap.kept self.new }
+        requires { P.kept self.old.below }
+        ensures meaning { Removes (P.view self.old.below) (P.view self.new.below) space page result }
+        ensures kept { P.kept self.new.below }
         ensures flags { self.new.flags ≡ self.old.flags }
     {
         self.below.remove(space, page)
     }
 
     fn lower(&mut self, space: u8, page: u32) -> Result<(), PmapRefusal>
-        requires { Kept P.Pmap.view P.Pmap.kept self.old }
-        ensures meaning { Lowers (P.Pmap.view self.old.below) (P.Pmap.view self.new.below) space page result }
-        ensures kept { Kept P.Pmap.view P.Pmap.kept self.new }
+        requires { P.kept self.old.below }
+        ensures meaning { Lowers (P.view self.old.below) (P.view self.new.below) space page result }
+        ensures kept { P.kept self.new.below }
         ensures flags { self.new.flags ≡ self.old.flags }
     {
         self.below.lower(space, page)
     }
 
     fn drop_frame(&mut self, frame: u16) -> Result<(), PmapRefusal>
-        requires { Kept P.Pmap.view P.Pmap.kept self.old }
-        ensures meaning { Drops (P.Pmap.view self.old.below) (P.Pmap.view self.new.below) frame result }
-        ensures kept { Kept P.Pmap.view P.Pmap.kept self.new }
+        requires { P.kept self.old.below }
+        ensures meaning { Drops (P.view self.old.below) (P.view self.new.below) frame result }
+        ensures kept { P.kept self.new.below }
         ensures flags { self.new.flags ≡ self.old.flags }
     {
         self.below.drop_frame(frame)
     }
 
     fn unwire(&mut self, space: u8, page: u32) -> Result<(), PmapRefusal>
-        requires { Kept P.Pmap.view P.Pmap.kept self.old }
-        ensures meaning { Unwires (P.Pmap.view self.old.below) (P.Pmap.view self.new.below) space page result }
-        ensures kept { Kept P.Pmap.view P.Pmap.kept self.new }
+        requires { P.kept self.old.below }
+        ensures meaning { Unwires (P.view self.old.below) (P.view self.new.below) space page result }
+        ensures kept { P.kept self.new.below }
         ensures flags { self.new.flags ≡ self.old.flags }
     {
         self.below.unwire(space, page)
     }
 
     fn access(&mut self, space: u8, page: u32, write: bool) -> Result<Access, PmapRefusal>
-        requires { Kept P.Pmap.view P.Pmap.kept self.old }
-        ensures meaning { Accesses (P.Pmap.view self.old.below) (P.Pmap.view self.new.below) space page write result }
-        ensures kept { Kept P.Pmap.view P.Pmap.kept self.new }
+        requires { P.kept self.old.below }
+        ensures meaning { Accesses (P.view self.old.below) (P.view self.new.below) space page write result }
+        ensures kept { P.kept self.new.below }
         ensures flags { self.new.flags ≡ written self.old.flags write result }
     {
         let access = self.below.access(space, page, write)?;
         if let Access::Hit(frame) = access {
             if write {
-                self.note(frame);
+                note(&mut self.flags, frame);
             }
         }
         Ok(access)
@@ -141,20 +134,17 @@ impl<P: Pmap> Pmap for Noted<P> {
 
     // The answer is the flag's; the pmap below is not asked.
     fn modified(&self, frame: u16) -> Result<bool, PmapRefusal> {
-        if !fits_frame(frame) {
-            return Err(PmapRefusal::Range);
-        }
-        Ok(self.flags[frame as usize])
+        Ok(self.flags[Frame::new(frame)?.index()])
     }
 
     fn clear_modified(&mut self, frame: u16) -> Result<(), PmapRefusal>
-        requires { Kept P.Pmap.view P.Pmap.kept self.old }
-        ensures meaning { Unmarks (P.Pmap.view self.old.below) (P.Pmap.view self.new.below) frame result }
-        ensures kept { Kept P.Pmap.view P.Pmap.kept self.new }
+        requires { P.kept self.old.below }
+        ensures meaning { Unmarks (P.view self.old.below) (P.view self.new.below) frame result }
+        ensures kept { P.kept self.new.below }
         ensures flags { self.new.flags ≡ cleaned self.old.flags frame result }
     {
         self.below.clear_modified(frame)?;
-        self.flags[frame as usize] = false;
+        self.flags[usize::from(frame)] = false;
         Ok(())
     }
 }

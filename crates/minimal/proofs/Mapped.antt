@@ -1,0 +1,30 @@
+-- Slots that are mapped by a closure which computes a change of each entry. Assumes nothing.
+use Rattle.std.proofs.Common.{◌≡◌, ℕ, zero, suc, ◌+◌, ◌<◌, List, map, Option, None, length, get_or, sym, ◌∙◌, ap, subst, arith}
+use Rattle.std.specs.Array.{IsMapOf, MapsFrom}
+use Rattle.std.specs.Fn.{Called}
+use denote.Param.Members.{Mut}
+use Rattle.std.proofs.lemmas.List.{ext_get_or, length-map, get_or-map}
+use Rattle.minimal.specs.declared.entry.Entry.{Entry}
+use Rattle.minimal.specs.Entries.{after, Sound}
+use Rattle.minimal.proofs.Holding.{Tame, after_sound}
+
+-- an array's map by a closure that computes a function
+module _ {F A B : Type 0} (g : Mut F (A × Unit {0}) B) (h : A → B) (f : F) (computes : (x : A) (y : B) (q : F) → Called g f (x, tt) y q → (y ≡ h x) × (q ≡ f)) (xs : List A) (ys : List B) (d : A) (e : B) where
+  at_each : (n i k j : ℕ) → j ≡ i + k → MapsFrom g f xs ys i n → k < n → get_or ys j e ≡ h (get_or xs j d)
+  at_each zero i k j is m small = absurd (omega arith)
+  at_each (suc n) i zero j is m small =
+      let here : j ≡ i = omega arith in
+      ap (λ a. get_or ys a e) here ∙ m.4.1 e ∙ (computes m.1 m.2 m.0 m.5).0 ∙ ap h (sym (ap (λ a. get_or xs a d) here ∙ m.3.1 d))
+  at_each (suc n) i (suc k) j is m small =
+      at_each n (i + 1) k j (omega arith) (subst (λ p. MapsFrom g p xs ys (i + 1) n) (computes m.1 m.2 m.0 m.5).1 m.6) (omega arith)
+
+  map_is : (n : ℕ) → IsMapOf g f xs ys n → length xs ≡ n → ys ≡ map h xs
+  map_is n m long =
+      ext_get_or e ys (map h xs) (m.long ∙ sym long ∙ sym (length-map xs h)) (λ i small. at_each n 0 i i (omega arith) m.each (omega (arith, m.long)) ∙ sym (get_or-map h xs i d e (omega (arith, m.long))))
+
+module _ {F : Type 0} (g : Mut F (Option Entry × Unit {0}) (Option Entry)) (change : Entry → Option Entry) (f : F) (computes : (x y : Option Entry) (q : F) → Called g f (x, tt) y q → (y ≡ after change x) × (q ≡ f)) (xs ys : List (Option Entry)) (sound : Sound xs) (mapped : IsMapOf g f xs ys 9) where
+  pub slots_mapped : ys ≡ map (after change) xs
+  slots_mapped = map_is g (after change) f computes xs ys None None 9 mapped sound.long
+
+  pub sound_mapped : Tame change → Sound ys
+  sound_mapped tame = subst Sound (sym slots_mapped) (after_sound change tame xs sound)

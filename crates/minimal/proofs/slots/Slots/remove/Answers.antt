@@ -1,0 +1,13 @@
+use Rattle.std.proofs.Common.{rules}
+use borrow.Author.Tests.{tests}
+use Rattle.minimal.specs.Entries.{removed}
+use Rattle.minimal.proofs.Holding.{tame_removed}
+use Rattle.minimal.proofs.Mapped.{slots_mapped, sound_mapped}
+use Rattle.minimal.proofs.slots.Slots.remove.Goals as goal
+
+pub invariant_of-result : goal.invariant_of-result
+invariant_of-result c =
+    record { sound = sound_mapped _ (removed c.args.place.space c.args.place.page) _ (λ x y q k. search (rules, tests)) _ _ c.args.self.sound c.map-list.ensures.items (tame_removed c.args.place.space c.args.place.page) }
+
+pub returns : goal.returns
+returns c = slots_mapped _ (removed c.args.place.space c.args.place.page) _ (λ x y q k. search (rules, tests)) _ _ c.args.self.sound c.map-list.ensures.items
