@@ -92,7 +92,7 @@ impl Board {
     pub(crate) fn fill(&mut self, slot: Slot, at: Place, mapping: Mapping)
         ensures { state self.new ≡ filled_with (state self.old) slot at.space at.page mapping.frame.number mapping.protection mapping.wired }
     {
-        let secondary = slot.index() / 8 != group(at, false);
+        let secondary = slot.group() != group(at, false);
         let first = entry_word(at, secondary);
         self.write(
             slot,

@@ -1,17 +1,19 @@
 -- Laws of the searches: proofs cite these, and not the definitions' text.
-use Rattle.std.proofs.Common.{◌≡◌, ℕ, zero, suc, ◌+◌, ◌*◌, ◌%◌, Bool, true, false, cond, not, eqb, List, map, get_or, Some, None, refl, ap}
+use Rattle.std.proofs.Common.{◌≡◌, ℕ, zero, suc, ◌+◌, ◌*◌, ◌%◌, Bool, true, false, cond, not, eqb, List, map, get_or, Some, None, sym, refl, ap, ◌∙◌, add_assoc, add-zero}
 use Rattle.std.specs.List.{find, range_with_len}
 use Rattle.powerpc_words.specs.Hashing.{group, entry_word}
 use Rattle.powerpc_words.specs.Search.{slot_from, slot_in, lookup, unused, unwired_from, unwired_in, victim_of}
 
-pub slot_from_find : (words : List ℕ) (w at n : ℕ) → slot_from words w at n ≡ find (λ k. eqb (get_or words (2 * k) 0) w) (map (λ k. k) (range_with_len at n))
+slot_from_find : (words : List ℕ) (w g at n : ℕ) → slot_from words w (8 * g + at) n ≡ find (λ k. eqb (get_or words (2 * k) 0) w) (map (λ t. 8 * g + t) (range_with_len at n))
 unfolding slot_from
-slot_from_find words w at zero = refl
-slot_from_find words w at (suc n) = ap (cond (eqb (get_or words (2 * at) 0) w) (Some at)) (slot_from_find words w (at + 1) n)
+slot_from_find words w g at zero = refl
+slot_from_find words w g at (suc n) =
+    ap (cond (eqb (get_or words (2 * (8 * g + at)) 0) w) (Some (8 * g + at)))
+    (rw (add_assoc (8 * g) at 1) (slot_from_find words w g (at + 1) n))
 
-pub slot_in_find : (words : List ℕ) (g w : ℕ) → slot_in words g w ≡ find (λ k. eqb (get_or words (2 * k) 0) w) (map (λ k. k) (range_with_len (8 * g) 8))
+pub slot_in_find : (words : List ℕ) (g w : ℕ) → slot_in words g w ≡ find (λ k. eqb (get_or words (2 * k) 0) w) (map (λ t. 8 * g + t) (range_with_len 0 8))
 unfolding slot_in
-slot_in_find words g w = slot_from_find words w (8 * g) 8
+slot_in_find words g w = ap (λ a. slot_from words w a 8) (sym (add-zero (8 * g))) ∙ slot_from_find words w g 0 8
 
 pub unwired_from_find : (wired : List Bool) (g at n : ℕ) → unwired_from wired g at n ≡ find (λ k. not (get_or wired k false)) (map (λ t. 8 * g + t % 8) (range_with_len at n))
 unfolding unwired_from

@@ -87,10 +87,10 @@ any_dirty_from words f n true (k, b, e) =
     sym ((any_dirty_decides words f n).1 (k, h, subst (λ j. dirty_at words f j ≡ true) (get_or-map-range_with_len (λ k. k) 0 n k k 0 h (zero-add k)) (e 0)))
 any_dirty_from words f n false none = ⊎_elim
     (λ (t : any_dirty words f n ≡ true).
-      let some = (any_dirty_decides words f n).0 t in
-      let k = some.0 in
-      let off : dirty_at words f k ≡ false = subst (λ j. dirty_at words f j ≡ false) (get_or-map-range_with_len (λ k. k) 0 n k k 0 some.1 (zero-add k)) (none k 0 (omega arith) (omega (arith, some.1, length-map-range_with_len {X = ℕ} (λ k. k) 0 n))) in
-      absurd (cc (some.2, off)))
+    let some = (any_dirty_decides words f n).0 t in
+    let k = some.0 in
+    let off : dirty_at words f k ≡ false = subst (λ j. dirty_at words f j ≡ false) (get_or-map-range_with_len (λ k. k) 0 n k k 0 some.1 (zero-add k)) (none k 0 (omega arith) (omega (arith, some.1, length-map-range_with_len {X = ℕ} (λ k. k) 0 n))) in
+    absurd (cc (some.2, off)))
     (λ (t : any_dirty words f n ≡ false). sym t)
     (cases_Bool (any_dirty words f n))
 

@@ -3,6 +3,7 @@ ghost use Rattle.std.specs.Prelude.{◌≡◌, ◌<◌};
 ghost use Rattle.powerpc_words.specs.Hashing.{vsid as virtual_segment, segment_of, hash as hash_of, group as group_of, entry_word};
 
 use crate::fields::first_word;
+use crate::slot::Group;
 use pmap::place::Place;
 
 // The virtual segment of a page's segment.
@@ -24,15 +25,11 @@ fn hash(at: Place) -> usize
 
 // The primary group of a place, or the secondary: its complement in ten bits.
 #[tactic(auto, unfolding(crate::specs::Hashing::group))]
-pub fn group(at: Place, secondary: bool) -> usize
-    ensures value { result ≡ group_of at.space at.page secondary }
-    ensures bound { result < 1024 }
+pub fn group(at: Place, secondary: bool) -> Group
+    ensures { result ≡ group_of at.space at.page secondary }
 {
-    if secondary {
-        0x3ff - hash(at)
-    } else {
-        hash(at)
-    }
+    let hash = hash(at);
+    Group::new(if secondary { 0x3ff - hash } else { hash })
 }
 
 // The first word of a place's entry in its primary or its secondary group.

@@ -28,8 +28,8 @@ pub fn indices_of(space: u8, page: u32) -> Result<Indices, PmapRefusal>
     let at = Place::new(space, page)?;
     Ok(Indices {
         vsid: vsid(at),
-        primary: group(at, false),
-        secondary: group(at, true),
+        primary: group(at, false).index(),
+        secondary: group(at, true).index(),
         first: entry_word(at, false),
         alternate: entry_word(at, true),
     })

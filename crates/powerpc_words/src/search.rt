@@ -1,20 +1,27 @@
 // The searches of a group, and the hardware's lookup, on the table words alone.
-ghost use Rattle.std.specs.Prelude.{◌≡◌, ◌<◌, length};
+ghost use Rattle.std.specs.Prelude.{◌≡◌, ◌<◌, false, true, length, MatchOption};
 ghost use Rattle.powerpc_words.specs.Search.{slot_in, lookup as looked_up, unused as unused_of, unwired_in, victim_of};
 
 use crate::hashing::{entry_word, group};
-use crate::slot::Slot;
+use crate::slot::{Group, Slot};
 use pmap::place::Place;
 use slots::word::word_or;
 
 // The lowest of the eight slots of a group whose first word is the given one.
-fn slot_in(words: &[u32], group: usize, first: u32) -> Option<Slot>
-    requires { group < 1024 }
+fn slot_in(words: &[u32], group: Group, first: u32) -> Option<Slot>
     ensures { result ≡ slot_in words.now group first }
 {
-    (8 * group..8 * group + 8)
-        .map(Slot::new)
+    (0..8)
+        .map(|place| group.slot(place))
         .find(|slot| word_or(words, 2 * slot.index(), 0) == first)
+}
+
+// The search of a place's primary group, or else of its secondary.
+fn in_groups<F: Fn(bool) -> Option<Slot>>(search: F) -> Option<Slot>
+    requires { F.IsAlwaysCallable search }
+    ensures { (primary : _) × F.post search false primary × MatchOption primary (F.post search true result) (λ slot. result ≡ Some slot) }
+{
+    search(false).or_else(|| search(true))
 }
 
 // The hardware's lookup: the primary group, then the secondary.
@@ -22,11 +29,7 @@ fn slot_in(words: &[u32], group: usize, first: u32) -> Option<Slot>
 pub fn lookup(words: &[u32], at: Place) -> Option<Slot>
     ensures { result ≡ looked_up words.now at.space at.page }
 {
-    slot_in(words, group(at, false), entry_word(at, false)).or_else(|| slot_in(
-        words,
-        group(at, true),
-        entry_word(at, true),
-    ))
+    in_groups(|secondary| slot_in(words, group(at, secondary), entry_word(at, secondary)))
 }
 
 // The first invalid slot for a place.
@@ -34,16 +37,16 @@ pub fn lookup(words: &[u32], at: Place) -> Option<Slot>
 pub fn unused(words: &[u32], at: Place) -> Option<Slot>
     ensures { result ≡ unused_of words.now at.space at.page }
 {
-    slot_in(words, group(at, false), 0).or_else(|| slot_in(words, group(at, true), 0))
+    in_groups(|secondary| slot_in(words, group(at, secondary), 0))
 }
 
 // The first unwired slot of a group from the counter on.
-fn unwired_in(wired: &[bool], group: usize, next: usize) -> Option<Slot>
-    requires { (length wired.now ≡ 8192) × ((group < 1024) × (next < 8)) }
+fn unwired_in(wired: &[bool], group: Group, next: usize) -> Option<Slot>
+    requires { (length wired.now ≡ 8192) × (next < 8) }
     ensures { result ≡ unwired_in wired.now group next }
 {
     (next..next + 8)
-        .map(|turn| Slot::new(8 * group + turn % 8))
+        .map(|turn| group.slot(turn % 8))
         .find(|slot| !wired[slot.index()])
 }
 
@@ -53,5 +56,5 @@ pub fn victim(wired: &[bool], next: usize, at: Place) -> Option<Slot>
     requires { (length wired.now ≡ 8192) × (next < 8) }
     ensures { result ≡ victim_of wired.now next at.space at.page }
 {
-    unwired_in(wired, group(at, false), next).or_else(|| unwired_in(wired, group(at, true), next))
+    in_groups(|secondary| unwired_in(wired, group(at, secondary), next))
 }
