@@ -1,14 +1,14 @@
 -- Loops over the words: each comes to its end at the state that a definition gives by position.
-use Rattle.std.proofs.Common.{◌≡◌, ℕ, ◌+◌, ◌<◌, ◌≤◌, Bool, true, false, cond, ◌&&◌, ◌||◌, eqb, ltb, List, map, length, get_or, replicate, Decides, sym, refl, ap, ◌∙◌, ⊎_elim, arith}
+use Rattle.std.proofs.Common.{◌≡◌, ℕ, ◌+◌, ◌<◌, ◌≤◌, Bool, true, false, cond, ◌&&◌, ◌||◌, eqb, ltb, List, map, length, get_or, Decides, sym, refl, ap, ◌∙◌, ⊎_elim, arith}
 use Rattle.std.specs.List.{range_with_len}
 use Rattle.std.proofs.lemmas.Bool.{cases_eq, cases_lt, cond-true, cond-false, lt-ltb, le-ltb, ltb-true, and_parts, and_from, and_left, and_right, both_ways, false_from_ne_true, eq-eqb, ne_eqb, or_cases, or_left, or_right}
 use Rattle.std.proofs.lemmas.Bool.Decides.{same_from_decides, Decides-below_or}
 use Rattle.std.proofs.lemmas.List.FromFn.{fill_by_all, get_or-map-range_with_len, length-map-range_with_len}
-use Rattle.std.proofs.lemmas.List.{get_or-set_other, get_or-replicate, length-replicate, ext_get_or, get_or_past}
+use Rattle.std.proofs.lemmas.List.{get_or-set_other, get_or_past}
 use Rattle.std.proofs.lemmas.Grind.{get_or-set_at}
 use Rattle.std.proofs.Math.Bool.{or_assoc, or-false, and-true}
 use Rattle.x86_words.specs.Words.{frame_of, dirty, dirty_in}
-use Rattle.x86_words.specs.State.{State, word_at, written, forgotten, any_dirty, emptied, mark_off, marks_off, wiped, started}
+use Rattle.x86_words.specs.State.{State, word_at, written, forgotten, any_dirty, emptied, marks_off, wiped, started}
 
 pub same_state : {a b : List ℕ} {c d : List Bool} {x y : ℕ} → a ≡ b → c ≡ d → x ≡ y → ◌≡◌ {A = State} (record { words = a; marks = c; next = x }) (record { words = b; marks = d; next = y })
 same_state p q r = cc
@@ -207,31 +207,6 @@ pub rewriting_step : (st u v : State) (after : ℕ → ℕ) (i w : ℕ) (b : Boo
     → i < length u.words → after i ≡ cond b w (word_at st i) → v ≡ cond b (written u i w) u → Rewriting st v after (i + 1)
 rewriting_step st u v after i w true r h a q = rw q (rewriting_hit st after u i r w h (sym a))
 rewriting_step st u v after i w false r h a q = rw q (rewriting_miss st after u i r a)
-
--- u is st with the first i marks off
-pub record Unmarking (st u : State) (i : ℕ) : Type 0 where
-  pub marks : (f : ℕ) → f < i → get_or u.marks f false ≡ false
-  pub words : u.words ≡ st.words
-  pub next : u.next ≡ st.next
-
-pub unmarking_none : (st : State) → Unmarking st st 0
-unmarking_none st = record { marks = λ f h. absurd (omega arith); words = refl; next = refl }
-
-pub unmarking_more : (st u v : State) (i : ℕ) → Unmarking st u i → i < length u.marks → v ≡ mark_off u i → Unmarking st v (i + 1)
-unmarking_more st u v i r h q = rw q (record {
-  marks = λ f lt. ⊎_elim
-      (λ (e : f ≡ i). get_or-set_at u.marks i f false false e h)
-      (λ (e : f ≡ i → ⊥). get_or-set_other u.marks i f false false e ∙ r.marks f (omega arith))
-      (cases_eq f i);
-  words = r.words;
-  next = r.next;
-})
-
-pub unmarking_all : (st u : State) (i : ℕ) → Unmarking st u i → length u.marks ≡ 256 → 256 ≤ i → u ≡ marks_off st
-unfolding marks_off
-unmarking_all st u i r m h = same_state r.words
-    (ext_get_or false u.marks (replicate 256 false) (m ∙ sym (length-replicate 256 false)) (λ f lt. r.marks f (omega arith) ∙ sym (get_or-replicate 256 f false false (omega arith))))
-    r.next
 
 -- the words, the marks and the counter of a cleared board, written one after the other
 pub starts : (st u v : State) → u ≡ wiped st → v ≡ marks_off u → ◌≡◌ {A = State} (record { words = v.words; marks = v.marks; next = 6 }) started

@@ -52,6 +52,7 @@ fn holds_wired(words: &[u64], leaf: Leaf) -> bool
 pub fn free_leaf(words: &[u64], next: Leaf) -> Leaf
     ensures { result.number ≡ free_from words.now next.number 9 }
 {
+    // A loop and no search over a chain: the leaves go round, and the last is not looked at.
     let mut leaf = next;
     for _step in FIRST_LEAF..LAST_LEAF {
         if !holds_wired(words, leaf) {

@@ -14,6 +14,7 @@ pub enum Bit {
 }
 
 // The physical page of table 0; the others follow.
+// A table is a plain number below 16: the definitions of walks reckon with it.
 pub const FIRST_TABLE: u64 = 256;
 
 pub const TABLES: u64 = 16;

@@ -7,6 +7,7 @@ ghost use Rattle.x86.specs.Reads.{state};
 use super::Board;
 use x86_words::word::{Bit, frame, has, with};
 
+// A position is a plain number: the loops count it, and a walk is made of such numbers.
 impl Board {
     pub(super) fn word(&self, at: usize) -> u64
         requires { at < 8192 }

@@ -31,6 +31,7 @@ impl Board {
     pub(super) fn drop_all(&mut self, wanted: Frame)
         ensures { state self.new ≡ dropped (state self.old) wanted.number }
     {
+        // A `for` over positions: each turn writes a word and a mark.
         for at in LEAVES..WORDS {
             self.drop_at(at, wanted);
         }
