@@ -1,7 +1,7 @@
 -- What a change of a second word does to its fields.
-use Rattle.std.proofs.Common.{◌≡◌, ℕ, ◌+◌, ◌-◌, ◌*◌, ◌/◌, ◌%◌, ◌<◌, Bool, true, false, cond, eqb, ◌⊎◌, sym, refl, ap, ◌∙◌, inl, inr, ⊎_elim, arith, lit<}
-use Rattle.std.proofs.lemmas.Nat.{shr-shr}
-use Rattle.std.proofs.lemmas.Bool.{cases_eq, eq-eqb, ne_eqb, cond-true, cond-false, cond_both}
+use Rattle.std.proofs.Common.{◌≡◌, ℕ, ◌+◌, ◌-◌, ◌*◌, ◌/◌, ◌%◌, ◌<◌, Bool, true, false, cond, eqb, ◌⊎◌, refl, ap, ◌∙◌, inl, inr, ⊎_elim, arith, lit<}
+use Rattle.std.proofs.lemmas.Bool.Decides.{nat_tests}
+use Rattle.std.proofs.lemmas.Bool.{cases_eq, eq-eqb, cond_both}
 use Rattle.powerpc_pmap.specs.Kept.{Shaped}
 use Rattle.powerpc_words.specs.Fields.{with_bit, frame_of, changed, protection_of, second_word, pp_of, touched, lowered, cleaned}
 
@@ -15,26 +15,22 @@ two n h = ⊎_elim (λ e. inl e) (λ ne. inr (omega arith)) (cases_eq n 0)
 -- ---- C off
 pub cleaned_frame : (w : ℕ) → frame_of (cleaned w) ≡ frame_of w
 unfolding cleaned
-cleaned_frame w = ⊎_elim (λ (z : w / 128 % 2 ≡ 0). omega arith) (λ (z : w / 128 % 2 ≡ 1). omega arith) (two (w / 128 % 2) (omega arith))
+cleaned_frame w = omega arith
 
 pub cleaned_protection : (w : ℕ) → protection_of (cleaned w) ≡ protection_of w
 unfolding cleaned
-cleaned_protection w =
-    let low : (w - w / 128 % 2 * 128) % 4 ≡ w % 4 = omega arith in
-    ap (λ x. cond (eqb x 2) 3 1) low
+cleaned_protection w = grind (arith, nat_tests)
 
 pub cleaned_changed : (w : ℕ) → changed (cleaned w) ≡ false
 unfolding cleaned changed
-cleaned_changed w =
-    let off : (w - w / 128 % 2 * 128) / 128 % 2 ≡ 0 = omega arith in
-    ne_eqb _ _ (λ e. omega (arith, off, e))
+cleaned_changed w = grind (arith, nat_tests)
 
 -- ---- R on, and C with a write
 r_frame : (w : ℕ) → with_bit w 8 / 4096 ≡ w / 4096
-r_frame w = ⊎_elim (λ (z : w / 256 % 2 ≡ 0). rw z (omega arith)) (λ (z : w / 256 % 2 ≡ 1). rw z (omega arith)) (two (w / 256 % 2) (omega arith))
+r_frame w = omega arith
 
 c_frame : (w : ℕ) → with_bit w 7 / 4096 ≡ w / 4096
-c_frame w = ⊎_elim (λ (z : w / 128 % 2 ≡ 0). rw z (omega arith)) (λ (z : w / 128 % 2 ≡ 1). rw z (omega arith)) (two (w / 128 % 2) (omega arith))
+c_frame w = omega arith
 
 pub touched_frame : (write : Bool) (w : ℕ) → frame_of (touched write w) ≡ frame_of w
 unfolding touched
@@ -61,10 +57,7 @@ touched_write_changed w = eq-eqb _ _ (on (with_bit w 8))
 
 pub touched_read_changed : (w : ℕ) → changed (touched false w) ≡ changed w
 unfolding touched changed
-touched_read_changed w = ap (λ x. eqb x 1) (same (1 - w / 256 % 2))
-  where
-    same : (k : ℕ) → (w + k * 256) / 128 % 2 ≡ w / 128 % 2
-    same k = omega arith
+touched_read_changed w = grind (arith, nat_tests)
 
 -- ---- protection 1
 pub lowered_frame : (w : ℕ) → frame_of (lowered w) ≡ frame_of w
@@ -73,40 +66,29 @@ lowered_frame w = omega arith
 
 pub lowered_protection : (w : ℕ) → protection_of (lowered w) ≡ 1
 unfolding lowered
-lowered_protection w =
-    let low : (w - w % 4 + 3) % 4 ≡ 3 = omega arith in
-    cond-false _ _ _ (ne_eqb _ _ (λ (e : (w - w % 4 + 3) % 4 ≡ 2). omega (arith, low, e)))
+lowered_protection w = grind (arith, nat_tests)
 
 pub lowered_changed : (w : ℕ) → changed (lowered w) ≡ changed w
 unfolding lowered changed
-lowered_changed w =
-    let high : (w - w % 4 + 3) / 4 ≡ w / 4 = omega arith in
-    ap (λ x. eqb (x % 2) 1) (sym (shr-shr (w - w % 4 + 3) 2 5) ∙ ap (λ x. x / 32) high ∙ shr-shr w 2 5)
+lowered_changed w = grind (arith, nat_tests)
 
 -- ---- a new entry
 pp_below : (q : ℕ) → pp_of q < 4
-pp_below q = cond_both (eqb q 3) 2 3 (λ x. x < 4) (λ _. lit< tt) (λ _. lit< tt)
+pp_below q = grind (arith, nat_tests)
 
 pub new_frame : (f q : ℕ) → frame_of (second_word f q) ≡ f
 new_frame f q = omega (arith, pp_below q)
 
 pub new_changed : (f q : ℕ) → changed (second_word f q) ≡ false
 unfolding changed
-new_changed f q = ne_eqb _ _ (λ (e : (f * 4096 + pp_of q) / 128 % 2 ≡ 1). omega (arith, e, pp_below q))
+new_changed f q = grind (arith, nat_tests, pp_below q)
 
 pub new_protection : (f q : ℕ) → (q ≡ 1) ⊎ (q ≡ 3) → protection_of (second_word f q) ≡ q
-new_protection f q (inl e) =
-    let pp : pp_of q ≡ 3 = cond-false (eqb q 3) 2 3 (ne_eqb q 3 (λ z. omega arith)) in
-    cond-false _ _ _ (ne_eqb _ _ (λ (z : (f * 4096 + pp_of q) % 4 ≡ 2). omega (arith, z, pp))) ∙ sym e
-new_protection f q (inr e) =
-    let pp : pp_of q ≡ 2 = cond-true (eqb q 3) 2 3 (eq-eqb q 3 e) in
-    let low : (f * 4096 + pp_of q) % 4 ≡ 2 = omega (arith, pp) in
-    cond-true _ _ _ (eq-eqb _ _ low) ∙ sym e
+new_protection f q e = grind (arith, nat_tests)
 
 -- ---- the shape of a second word
 pp_small : (n : ℕ) → (n ≡ 2) ⊎ (n ≡ 3) → n < 4
-pp_small n (inl e) = omega arith
-pp_small n (inr e) = omega arith
+pp_small n e = omega arith
 
 module _ (w : ℕ) (x : Shaped w) where
   pp_fits : x.pp < 4

@@ -1,53 +1,41 @@
 -- Changes of slots that keep what a board keeps.
-use Rattle.std.proofs.Common.{◌≡◌, ℕ, zero, suc, ◌+◌, ◌<◌, ◌≤◌, Bool, true, false, ◌⊎◌, length, sym, ap, ◌∙◌, subst, inl, inr, ⊎_elim, add-one, arith}
-use Rattle.std.proofs.lemmas.Bool.{cases_Bool, cases_eq, both_ways}
+use Rattle.std.proofs.Common.{◌≡◌, ℕ, zero, suc, ◌+◌, ◌<◌, ◌≤◌, Bool, true, false, ◌⊎◌, length, sym, ◌∙◌, subst, inl, inr, refl, ⊎_elim, arith}
+use Rattle.std.proofs.lemmas.Bool.{cases_eq, both_ways}
 use Rattle.pmap.specs.Tally.{tally}
-use Rattle.pmap.proofs.Crowds.{tally_none, tally_hit, tally_miss}
 use Rattle.powerpc_words.specs.State.{State, first, second, wired_at}
 use Rattle.powerpc_words.proofs.HashLaws.{entry_above}
 use Rattle.powerpc_pmap.specs.Kept.{At, Shaped, Unused, Used, Kept}
 
--- the count at one more, as a number
-tally_step : (f : ℕ → Bool) (n : ℕ) → ((f n ≡ true) × (tally f (suc n) ≡ tally f n + 1)) ⊎ ((f n ≡ false) × (tally f (suc n) ≡ tally f n))
-tally_step f n = ⊎_elim
-    (λ (e : f n ≡ true). inl (e, ap (tally f) (sym (add-one n)) ∙ tally_hit f n e))
-    (λ (e : f n ≡ false). inr (e, ap (tally f) (sym (add-one n)) ∙ tally_miss f n e))
-    (cases_Bool (f n))
-
 -- what passes one test passes another
 pub tally_mono : (f g : ℕ → Bool) (n : ℕ) → ((j : ℕ) → j < n → f j ≡ true → g j ≡ true) → tally f n ≤ tally g n
-tally_mono f g zero h = omega (arith, tally_none f, tally_none g)
+unfolding tally
+tally_mono f g zero h = omega arith
 tally_mono f g (suc n) h =
     let less = tally_mono f g n (λ j b. h j (omega arith)) in
-    ⊎_elim
-    (λ a. ⊎_elim (λ b. omega (arith, a.1, b.1)) (λ b. absurd (both_ways (g n) b.0 (h n (omega arith) a.0))) (tally_step g n))
-    (λ a. ⊎_elim (λ b. omega (arith, a.1, b.1)) (λ b. omega (arith, a.1, b.1)) (tally_step g n))
-    (tally_step f n)
+    let last : f n ≡ true → g n ≡ true = h n (omega arith) in
+    grind (arith, less, last)
 
 -- the same, but for one number
 pub tally_one : (f g : ℕ → Bool) (k n : ℕ) → ((j : ℕ) → j < n → f j ≡ true → (g j ≡ true) ⊎ (j ≡ k)) → tally f n ≤ tally g n + 1
-tally_one f g k zero h = omega (arith, tally_none f, tally_none g)
+unfolding tally
+tally_one f g k zero h = omega arith
 tally_one f g k (suc n) h = ⊎_elim
     (λ (q : n ≡ k).
     let less = tally_mono f g n (λ j b t. ⊎_elim (λ x. x) (λ y. absurd (omega arith)) (h j (omega arith) t)) in
-    ⊎_elim
-    (λ a. ⊎_elim (λ b. omega (arith, a.1, b.1)) (λ b. omega (arith, a.1, b.1)) (tally_step g n))
-    (λ a. ⊎_elim (λ b. omega (arith, a.1, b.1)) (λ b. omega (arith, a.1, b.1)) (tally_step g n))
-    (tally_step f n))
+    grind (arith, less))
     (λ (q : n ≡ k → ⊥).
     let less = tally_one f g k n (λ j b. h j (omega arith)) in
-    ⊎_elim
-    (λ a. ⊎_elim (λ b. omega (arith, a.1, b.1)) (λ b. absurd (⊎_elim (λ x. both_ways (g n) b.0 x) q (h n (omega arith) a.0))) (tally_step g n))
-    (λ a. ⊎_elim (λ b. omega (arith, a.1, b.1)) (λ b. omega (arith, a.1, b.1)) (tally_step g n))
-    (tally_step f n))
+    let last : f n ≡ true → (g n ≡ true) ⊎ (n ≡ k) = h n (omega arith) in
+    grind (arith, less, last))
     (cases_eq n k)
 
 pub tally_zero : (f : ℕ → Bool) (n : ℕ) → ((j : ℕ) → j < n → f j ≡ false) → tally f n ≡ 0
-tally_zero f zero h = tally_none f
-tally_zero f (suc n) h = ⊎_elim
-    (λ a. absurd (both_ways (f n) (h n (omega arith)) a.0))
-    (λ a. a.1 ∙ tally_zero f n (λ j b. h j (omega arith)))
-    (tally_step f n)
+unfolding tally
+tally_zero f zero h = refl
+tally_zero f (suc n) h =
+    let none = tally_zero f n (λ j b. h j (omega arith)) in
+    let last : f n ≡ false = h n (omega arith) in
+    grind (arith, none, last)
 
 -- what may become of a slot: it stays, it is emptied, or its second word or wired mark change while its place and frame stay
 pub data Tame (st sv : State) (k : ℕ) : Type 0 where

@@ -1,13 +1,9 @@
 -- The starting state.
-use Rattle.std.proofs.Common.{◌≡◌, ℕ, ◌+◌, ◌*◌, ◌<◌, ◌≤◌, Bool, false, List, length, get_or, replicate, sym, ap, ◌∙◌, ⊎_elim, arith}
+use Rattle.std.proofs.Common.{◌≡◌, ℕ, ◌+◌, ◌*◌, ◌<◌, ◌≤◌, Bool, false, List, get_or, replicate, ap, ◌∙◌, ⊎_elim, arith}
 use Rattle.std.proofs.lemmas.Bool.{cases_lt}
-use Rattle.std.proofs.lemmas.List.{ext_get_or, get_or-replicate, length-replicate, get_or_past}
+use Rattle.std.proofs.lemmas.List.{get_or-replicate, length-replicate, get_or_past}
 use Rattle.powerpc_words.specs.Framed.{Framed}
 use Rattle.powerpc_words.specs.State.{start}
-
--- a list with one value at every place
-pub filled_all : {X : Type 0} (n i : ℕ) (xs : List X) (x : X) → length xs ≡ n → n ≤ i → ((k : ℕ) → k < i → get_or xs k x ≡ x) → xs ≡ replicate n x
-filled_all n i xs x e h at = ext_get_or x xs (replicate n x) (e ∙ sym (length-replicate n x)) (λ k b. at k (omega arith) ∙ sym (get_or-replicate n k x x (omega arith)))
 
 pub get_d_same : {X : Type 0} (n k : ℕ) (x : X) → get_or (replicate n x) k x ≡ x
 get_d_same n k x = ⊎_elim

@@ -22,14 +22,14 @@ impl Model for Group {
 }
 
 impl Group {
-    pub fn new(index: usize) -> Group
+    pub(crate) fn new(index: usize) -> Group
         requires { index < 1024 }
         ensures { result ≡ index }
     {
         Group { index }
     }
 
-    pub fn index(self) -> usize
+    pub(crate) fn index(self) -> usize
         ensures value { result ≡ self }
         ensures bound { result < 1024 }
     {
@@ -37,7 +37,7 @@ impl Group {
     }
 
     // One of the group's slots.
-    pub fn slot(self, place: usize) -> Slot
+    pub(crate) fn slot(self, place: usize) -> Slot
         requires { place < 8 }
         ensures { result ≡ 8 * self + place }
     {
@@ -48,38 +48,39 @@ impl Group {
 // The number of a slot, in range.
 #[derive(Clone, Copy, PartialEq, Eq, Debug)]
 pub struct Slot {
-    index: usize,
+    number: usize,
 }
 
 impl Model for Slot {
     ghost Value = { ℕ };
 
-    ghost view = { λ s. s.index };
+    ghost view = { λ s. s.number };
 
-    ghost invariant = { λ s. s.index < 8192 };
+    ghost invariant = { λ s. s.number < 8192 };
 
-    ghost inverse = { λ n. record { index = n } };
+    ghost inverse = { λ n. record { number = n } };
 }
 
 impl Slot {
-    pub fn new(index: usize) -> Slot
-        requires { index < 8192 }
-        ensures { result ≡ index }
+    pub fn new(number: usize) -> Slot
+        requires { number < 8192 }
+        ensures { result ≡ number }
     {
-        Slot { index }
+        Slot { number }
     }
 
+    // The slot's place in a list of all slots.
     pub fn index(self) -> usize
         ensures value { result ≡ self }
         ensures bound { result < 8192 }
     {
-        self.index
+        self.number
     }
 
     // The group that the slot stands in.
     pub fn group(self) -> Group
         ensures { result ≡ self / 8 }
     {
-        Group::new(self.index / 8)
+        Group::new(self.index() / 8)
     }
 }
