@@ -2,6 +2,7 @@
 
 #![tactic(auto)]
 
+pub mod operation;
 pub mod words;
 
 #[derive(Clone, Copy, PartialEq, Eq, Debug)]

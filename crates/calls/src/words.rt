@@ -9,6 +9,7 @@ impl fmt::Display for Call {
     ghost output = { λ call. Some (call_words call) };
 
     fn fmt<W: fmt::Write>(&self, f: &mut fmt::Formatter<W>) -> fmt::Result {
+        write!(f, "{}", self.operation())?;
         match *self {
             Call::Map {
                 space,
@@ -20,26 +21,23 @@ impl fmt::Display for Call {
             } => {
                 write!(
                     f,
-                    "map space {space} page {page} count {count} object {object} offset {offset} protection {protection}"
+                    " space {space} page {page} count {count} object {object} offset {offset} protection {protection}"
                 )
             }
-            Call::Unmap { space, page } => write!(f, "unmap space {space} page {page}"),
             Call::Protect {
                 space,
                 page,
                 protection,
-            } => write!(
-                f,
-                "protect space {space} page {page} protection {protection}"
-            ),
-            Call::Read { space, page } => write!(f, "read space {space} page {page}"),
+            } => write!(f, " space {space} page {page} protection {protection}"),
             Call::Write { space, page, word } => write!(
                 f,
-                "write space {space} page {page} word {word}"
+                " space {space} page {page} word {word}"
             ),
-            Call::Wire { space, page } => write!(f, "wire space {space} page {page}"),
-            Call::Unwire { space, page } => write!(f, "unwire space {space} page {page}"),
-            Call::Sync { object } => write!(f, "sync object {object}"),
+            Call::Unmap { space, page }
+            | Call::Read { space, page }
+            | Call::Wire { space, page }
+            | Call::Unwire { space, page } => write!(f, " space {space} page {page}"),
+            Call::Sync { object } => write!(f, " object {object}"),
         }
     }
 }

@@ -5,7 +5,6 @@ use Rattle.x86_words.specs.Walks.{linear, position}
 use Rattle.x86_words.specs.State.{directory_at, leaf_at}
 use Rattle.powerpc_words.specs.Fields.{second_word, touched}
 use Rattle.powerpc_words.specs.Hashing.{vsid, segment_of, group, entry_word}
-use Rattle.trace.specs.declared.record.Record.TheVariants.{Map as MapRecord}
 use Rattle.trace.specs.Format.{encoded, content_at}
 use Rattle.refusal.specs.declared.memory.MemoryRefusal.{MemoryRefusal}
 use Rattle.refusal.specs.Codes.{memory_code}
@@ -63,9 +62,9 @@ WorkedCases =
     -- and then after a write
     × (touched true 0x5102 ≡ 0x5182)
     -- the record of a trace that maps space 0, page 16, count 2, object 0, offset 0, protection 3, as bytes
-    × (encoded (MapRecord 0 16 2 0 0 3) ≡ Some (0x10 ∷ 0x00 ∷ 0x04 ∷ 0x00 ∷ 0x40 ∷ 0x01 ∷ 0x80 ∷ 0x00 ∷ 0x00 ∷ 0x00 ∷ 0x00 ∷ 0x00 ∷ []))
+    × (encoded (Map 0 16 2 0 0 3) ≡ Some (0x10 ∷ 0x00 ∷ 0x04 ∷ 0x00 ∷ 0x40 ∷ 0x01 ∷ 0x80 ∷ 0x00 ∷ 0x00 ∷ 0x00 ∷ 0x00 ∷ 0x00 ∷ []))
     -- and the same bytes read back
-    × (content_at (0x10 ∷ 0x00 ∷ 0x04 ∷ 0x00 ∷ 0x40 ∷ 0x01 ∷ 0x80 ∷ 0x00 ∷ 0x00 ∷ 0x00 ∷ 0x00 ∷ 0x00 ∷ []) 0 ≡ Ok (MapRecord 0 16 2 0 0 3))
+    × (content_at (0x10 ∷ 0x00 ∷ 0x04 ∷ 0x00 ∷ 0x40 ∷ 0x01 ∷ 0x80 ∷ 0x00 ∷ 0x00 ∷ 0x00 ∷ 0x00 ∷ 0x00 ∷ []) 0 ≡ Ok (Map 0 16 2 0 0 3))
     -- a map of one page passes at the last page of a space and at the last page of an object; of two pages it gets 6
     × (numbers (fresh 1) (Map 0 262143 1 0 0 3 ∷ []) ≡ 0 ∷ [])
     × (numbers (fresh 1) (Map 0 262143 2 0 0 3 ∷ []) ≡ 6 ∷ [])

@@ -1,20 +1,18 @@
 -- The text of a listing, as bytes: what the program prints of a file. Assumes nothing of the file.
-use Rattle.std.specs.Prelude.{ℕ, ◌+◌, cond, List, [], ◌∷◌, ◌++◌, length, is_err, Ok, Err, codes, decimal, Result}
+use Rattle.std.specs.Prelude.{ℕ, List, ◌++◌, length, count_by, is_err, Ok, Err, codes, decimal, Result}
+use Rattle.std.specs.List.{flat_map}
 use Rattle.refusal.specs.declared.file.FileRefusal.{FileRefusal}
-use Rattle.refusal.specs.Codes.{file_code}
 use Rattle.trace.specs.declared.record.Entry.{Entry}
 use Rattle.trace.specs.Format.{checked, entries_of}
-use Rattle.trace.specs.Words.{entry_words}
+use Rattle.trace.specs.Words.{entry_words, refused_text}
 
 -- a line for each entry
-unfoldable pub lines : List Entry → List ℕ
-lines [] = []
-lines (e ∷ es) = (entry_words e ++ codes "\n") ++ lines es
+abbrev pub lines : List Entry → List ℕ
+lines es = flat_map (λ e. entry_words e ++ codes "\n") es
 
 -- how many entries are turned away
-unfoldable pub turned_away : List Entry → ℕ
-turned_away [] = 0
-turned_away (e ∷ es) = cond (is_err e.content) 1 0 + turned_away es
+abbrev pub turned_away : List Entry → ℕ
+turned_away es = count_by (λ e. is_err e.content) es
 
 -- the lines of a trace's entries, and then its counts
 abbrev pub trace_text : ℕ → List Entry → List ℕ
@@ -24,7 +22,7 @@ trace_text frames entries =
 
 -- of a file that is turned away, only the number of its refusal
 abbrev pub text_by : Result ℕ FileRefusal → List Entry → List ℕ
-text_by (Err e) entries = codes "file " ++ (decimal (file_code e).number ++ codes "\n")
+text_by (Err e) entries = refused_text e
 text_by (Ok frames) entries = trace_text frames entries
 
 abbrev pub listing_text : List ℕ → List ℕ

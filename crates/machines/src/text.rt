@@ -31,6 +31,6 @@ pub fn replay_all(heap: Global, bytes: &[u8]) -> Result<String, AllocError>
             let number = refusal.code().number;
             format!(in heap; "file {number}\n")
         }
-        Err(ReadError::Memory) => Err(AllocError),
+        Err(ReadError::Memory(e)) => Err(e),
     }
 }

@@ -1,1 +1,4 @@
 pub mod New
+pub mod Kept
+pub mod Entering
+pub mod Victims

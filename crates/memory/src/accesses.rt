@@ -1,9 +1,8 @@
 // Reads and writes.
 ghost use Rattle.std.specs.Prelude.{◌≡◌};
 ghost use Rattle.calls.specs.declared.Call.TheVariants.{Read as ReadCall, Write as WriteCall};
-ghost use Rattle.memory_meaning.specs.Ready.{memory_state, Ready};
-ghost use Rattle.memory_meaning.specs.Leaves.{Serves};
 ghost use Rattle.memory_meaning.specs.Replies.{read_reply, wrote_reply};
+ghost use Rattle.memory.specs.Whole.{Serving};
 
 use crate::memory::Memory;
 use pmap::interface::Pmap;
@@ -13,13 +12,10 @@ use rules::answer::{Reading, Report};
 impl<P: Pmap> Memory<P> {
     // The word of the place's object page.
     pub fn read_page(&mut self, space: u8, page: u32) -> Result<Reading, MemoryRefusal>
-        requires kept { P.kept self.old.pmap }
-        requires ready { Ready (P.view self.old.pmap) (memory_state (P.view self.old.pmap) self.old.tables self.old.counts) }
-        ensures serves { Serves (P.view self.old.pmap) (P.view self.new.pmap) (memory_state (P.view self.old.pmap) self.old.tables self.old.counts) (memory_state (P.view self.new.pmap) self.new.tables self.new.counts) (ReadCall space page) (read_reply result) }
-        ensures kept { P.kept self.new.pmap }
+        ensures { Serving P.view self.old self.new (ReadCall space page) (read_reply result) }
     {
-        let reached = self.reach(space, page, false)?;
-        let word = self.tables.word(reached.frame);
+        let reached = self.parts.reach(space, page, false)?;
+        let word = self.parts.tables.word(reached.frame);
         Ok(Reading {
             report: reached.report,
             word,
@@ -28,13 +24,10 @@ impl<P: Pmap> Memory<P> {
 
     // Writes a word to the place's object page.
     pub fn write_page(&mut self, space: u8, page: u32, word: u32) -> Result<Report, MemoryRefusal>
-        requires kept { P.kept self.old.pmap }
-        requires ready { Ready (P.view self.old.pmap) (memory_state (P.view self.old.pmap) self.old.tables self.old.counts) }
-        ensures serves { Serves (P.view self.old.pmap) (P.view self.new.pmap) (memory_state (P.view self.old.pmap) self.old.tables self.old.counts) (memory_state (P.view self.new.pmap) self.new.tables self.new.counts) (WriteCall space page word) (wrote_reply result) }
-        ensures kept { P.kept self.new.pmap }
+        ensures { Serving P.view self.old self.new (WriteCall space page word) (wrote_reply result) }
     {
-        let reached = self.reach(space, page, true)?;
-        self.tables.write_word(reached.frame, word);
+        let reached = self.parts.reach(space, page, true)?;
+        self.parts.tables.write_word(reached.frame, word);
         Ok(reached.report)
     }
 }

@@ -2,8 +2,10 @@
 ghost use Rattle.std.specs.Prelude.{◌≡◌, ◌<◌, ◌≤◌};
 ghost use Rattle.rules.specs.Refusals.{refusal as refusal_of};
 ghost use Rattle.rules.specs.Rules.{reply as reply_to, after as state_after};
-ghost use Rattle.memory_meaning.specs.Ready.{memory_state, Ready, hits};
+ghost use Rattle.rules.specs.History.{May};
+ghost use Rattle.memory_meaning.specs.Ready.{hits};
 ghost use Rattle.memory_meaning.specs.Leaves.{Leaves};
+ghost use Rattle.memory.specs.Whole.{seen, state};
 
 use crate::memory::Memory;
 use calls::Call;
@@ -18,20 +20,17 @@ const CALL_LIMIT: u32 = 1_000_000;
 impl<P: Pmap> Memory<P> {
     // Carries out one call, or refuses it, and counts it.
     pub fn call(&mut self, call: Call) -> Reply
-        requires kept { P.kept self.old.pmap }
-        requires ready { Ready (P.view self.old.pmap) (memory_state (P.view self.old.pmap) self.old.tables self.old.counts) }
-        ensures answer { result ≡ reply_to (memory_state (P.view self.old.pmap) self.old.tables self.old.counts) call (hits (P.view self.old.pmap) call) }
-        ensures state { memory_state (P.view self.new.pmap) self.new.tables self.new.counts ≡ state_after (memory_state (P.view self.old.pmap) self.old.tables self.old.counts) call (hits (P.view self.old.pmap) call) }
-        ensures view { Leaves (P.view self.old.pmap) (P.view self.new.pmap) (memory_state (P.view self.old.pmap) self.old.tables self.old.counts) call (refusal_of (memory_state (P.view self.old.pmap) self.old.tables self.old.counts) call) }
-        ensures ready { Ready (P.view self.new.pmap) (memory_state (P.view self.new.pmap) self.new.tables self.new.counts) }
-        ensures kept { P.kept self.new.pmap }
+        ensures answer { result ≡ reply_to (state P.view self.old) call (hits (seen P.view self.old) call) }
+        ensures state { state P.view self.new ≡ state_after (state P.view self.old) call (hits (seen P.view self.old) call) }
+        ensures view { Leaves (seen P.view self.old) (seen P.view self.new) (state P.view self.old) call (refusal_of (state P.view self.old) call) }
+        ensures may { May (state P.view self.old) call (hits (seen P.view self.old) call) }
     {
-        let counts = self.counts;
+        let counts = self.parts.counts;
         if counts.calls >= CALL_LIMIT {
             return Err(MemoryRefusal::CallLimit);
         }
         let reply = self.serve(call);
-        self.counts = added(&counts, &reply);
+        self.parts.counts = added(&counts, &reply);
         reply
     }
 }

@@ -1,20 +1,17 @@
 // The eight calls, each carried out or refused.
 ghost use Rattle.std.specs.Prelude.{◌≡◌};
-ghost use Rattle.memory_meaning.specs.Ready.{memory_state, Ready};
-ghost use Rattle.memory_meaning.specs.Leaves.{Serves};
+ghost use Rattle.memory.specs.Whole.{Serving};
 
 use crate::memory::Memory;
 use calls::Call;
 use pmap::interface::Pmap;
 use rules::answer::{Answer, Reply};
+use rules::region::Region;
 
 impl<P: Pmap> Memory<P> {
     // One call, not counted.
     pub(crate) fn serve(&mut self, call: Call) -> Reply
-        requires kept { P.kept self.old.pmap }
-        requires ready { Ready (P.view self.old.pmap) (memory_state (P.view self.old.pmap) self.old.tables self.old.counts) }
-        ensures serves { Serves (P.view self.old.pmap) (P.view self.new.pmap) (memory_state (P.view self.old.pmap) self.old.tables self.old.counts) (memory_state (P.view self.new.pmap) self.new.tables self.new.counts) call result }
-        ensures kept { P.kept self.new.pmap }
+        ensures { Serving P.view self.old self.new call result }
     {
         match call {
             Call::Map {
@@ -25,7 +22,14 @@ impl<P: Pmap> Memory<P> {
                 offset,
                 protection,
             } => {
-                self.map_region(space, page, count, object, offset, protection)?;
+                self.map_region(Region {
+                    space,
+                    first: page,
+                    count,
+                    object,
+                    offset,
+                    protection,
+                })?;
                 Ok(Answer::Done)
             }
             Call::Unmap { space, page } => {

@@ -8,6 +8,7 @@ mod dispatch;
 pub mod making;
 pub mod memory;
 mod paging;
+pub mod parts;
 mod reaching;
 mod regions;
 mod syncing;

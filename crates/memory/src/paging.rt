@@ -3,20 +3,21 @@ ghost use Rattle.std.specs.Prelude.{◌≡◌, ◌<◌, Some, vec_len, MatchResu
 ghost use Rattle.rules.specs.Lists.{place};
 ghost use Rattle.rules.specs.Refusals.{free};
 ghost use Rattle.rules.specs.Good.{Good};
-ghost use Rattle.memory_meaning.specs.Ready.{memory_state, Brings, NoRoom};
-ghost use Rattle.memory_meaning.specs.Evicting.{Saves, Evicts};
+ghost use Rattle.memory.specs.Whole.{state, Bringing, Roomless, Evicting, Saving};
 
-use crate::memory::Memory;
+use crate::parts::Parts;
 use memory_meaning::outcome::Brought;
 use pmap::interface::Pmap;
 use refusal::memory::MemoryRefusal;
 use rules::answer::Evicted;
 
-impl<P: Pmap> Memory<P> {
+impl<P: Pmap> Parts<P> {
     // Stores the word of a frame if it is modified, takes it out of the modified ones, and says whether it was.
     fn save_modified(&mut self, frame: u16) -> Result<bool, MemoryRefusal>
-        requires { (P.kept self.old.pmap) × ((frame < 256) × (slice_index self.old.tables.owners.items frame < 2048)) }
-        ensures saves { MatchResult result (λ b. Saves (P.view self.old.pmap) (P.view self.new.pmap) (memory_state (P.view self.old.pmap) self.old.tables self.old.counts) (memory_state (P.view self.new.pmap) self.new.tables self.new.counts) frame b) (λ _. ⊥) }
+        requires kept { P.kept self.old.pmap }
+        requires frame { frame < 256 }
+        requires owner { slice_index self.old.tables.owners.items frame < 2048 }
+        ensures saves { MatchResult result (λ b. Saving P.view self.old self.new frame b) (λ _. ⊥) }
         ensures kept { P.kept self.new.pmap }
     {
         if !self.pmap.modified(frame)? {
@@ -29,8 +30,12 @@ impl<P: Pmap> Memory<P> {
 
     // The page of the frame at a position of the queue goes.
     fn evict(&mut self, at: usize) -> Result<Evicted, MemoryRefusal>
-        requires { (P.kept self.old.pmap) × ((place (free self.old.tables.wired.items) self.old.tables.queue.items ≡ Some at) × ((at < vec_len self.old.tables.queue) × ((slice_index self.old.tables.queue.items at < 256) × (slice_index self.old.tables.owners.items (slice_index self.old.tables.queue.items at) < 2048)))) }
-        ensures evicts { MatchResult result (λ out. Evicts (P.view self.old.pmap) (P.view self.new.pmap) (memory_state (P.view self.old.pmap) self.old.tables self.old.counts) (memory_state (P.view self.new.pmap) self.new.tables self.new.counts) (slice_index self.old.tables.queue.items at) out) (λ _. ⊥) }
+        requires kept { P.kept self.old.pmap }
+        requires first { place (free self.old.tables.wired.items) self.old.tables.queue.items ≡ Some at }
+        requires inside { at < vec_len self.old.tables.queue }
+        requires frame { slice_index self.old.tables.queue.items at < 256 }
+        requires owner { slice_index self.old.tables.owners.items (slice_index self.old.tables.queue.items at) < 2048 }
+        ensures evicts { MatchResult result (λ out. Evicting P.view self.old self.new (slice_index self.old.tables.queue.items at) out) (λ _. ⊥) }
         ensures kept { P.kept self.new.pmap }
     {
         let frame = self.tables.queue[at];
@@ -48,8 +53,10 @@ impl<P: Pmap> Memory<P> {
     // Has object page x resident: where it is not, it is loaded into an unused frame, the lowest first, else into that of the
     // page loaded longest ago whose frame is not wired.
     pub fn bring(&mut self, x: usize) -> Result<Brought, MemoryRefusal>
-        requires { (P.kept self.old.pmap) × ((Good (memory_state (P.view self.old.pmap) self.old.tables self.old.counts)) × (x < 2048)) }
-        ensures brings { MatchResult result (λ b. Brings (P.view self.old.pmap) (P.view self.new.pmap) (memory_state (P.view self.old.pmap) self.old.tables self.old.counts) (memory_state (P.view self.new.pmap) self.new.tables self.new.counts) x b.frame b.loaded b.evicted) (λ e. NoRoom (P.view self.old.pmap) (P.view self.new.pmap) (memory_state (P.view self.old.pmap) self.old.tables self.old.counts) (memory_state (P.view self.new.pmap) self.new.tables self.new.counts) x e) }
+        requires kept { P.kept self.old.pmap }
+        requires good { Good (state P.view self.old) }
+        requires page { x < 2048 }
+        ensures brings { MatchResult result (λ b. Bringing P.view self.old self.new x b) (λ e. Roomless P.view self.old self.new x e) }
         ensures kept { P.kept self.new.pmap }
     {
         if let Some(frame) = self.tables.frame_of(x) {
@@ -69,9 +76,7 @@ impl<P: Pmap> Memory<P> {
                 evicted: None,
             });
         }
-        let Some(at) = self.tables.victim() else {
-            return Err(MemoryRefusal::NoFrame);
-        };
+        let at = self.tables.victim().ok_or(MemoryRefusal::NoFrame)?;
         let frame = self.tables.queue[at];
         let evicted = self.evict(at)?;
         self.tables.load(x, frame);

@@ -3,37 +3,32 @@ ghost use Rattle.std.specs.Prelude.{◌≡◌, true, false, Some, None, MatchRes
 ghost use Rattle.pmap.specs.Ranges.{fits_place};
 ghost use Rattle.rules.specs.State.{page_in};
 ghost use Rattle.rules.specs.Refusals.{cover as covering};
-ghost use Rattle.memory_meaning.specs.Ready.{memory_state, Ready, NoRoom, serves};
-ghost use Rattle.memory_meaning.specs.Reaching.{Reaches, Unmoved, access_refusal};
+ghost use Rattle.memory_meaning.specs.Ready.{serves};
+ghost use Rattle.memory_meaning.specs.Reaching.{access_refusal};
+ghost use Rattle.memory.specs.Whole.{seen, state, Whole, Reaching, Roomless, Still};
 
-use crate::memory::Memory;
+use crate::parts::Parts;
 use memory_meaning::outcome::Reached;
 use pmap::access::Access;
 use pmap::interface::Pmap;
+use pmap::place::Place;
 use pmap::range::fits_place;
 use refusal::memory::MemoryRefusal;
 use rules::answer::{Kind, Report};
 use rules::region::Region;
 use tables::lookups::object_page;
 
-impl<P: Pmap> Memory<P> {
+impl<P: Pmap> Parts<P> {
     // Brings the object page in, enters the place's mapping, and repeats the access.
-    fn fault(
-        &mut self,
-        region: Region,
-        space: u8,
-        page: u32,
-        write: bool,
-    ) -> Result<Reached, MemoryRefusal>
-        requires kept { P.kept self.old.pmap }
-        requires ready { Ready (P.view self.old.pmap) (memory_state (P.view self.old.pmap) self.old.tables self.old.counts) }
-        requires place { fits_place space page ≡ true }
-        requires covers { covering self.old.tables.regions.items space page ≡ Some region }
+    fn fault(&mut self, region: Region, at: Place, write: bool) -> Result<Reached, MemoryRefusal>
+        requires whole { Whole P.view P.kept self.old }
+        requires covers { covering self.old.tables.regions.items at.space at.page ≡ Some region }
         requires right { write ≡ true → region.protection ≡ 3 }
-        requires missed { serves ((P.view self.old.pmap).held space page) write ≡ false }
-        ensures reaches { MatchResult result (λ x. Reaches (P.view self.old.pmap) (P.view self.new.pmap) (memory_state (P.view self.old.pmap) self.old.tables self.old.counts) (memory_state (P.view self.new.pmap) self.new.tables self.new.counts) space page write x.frame x.report) (λ e. NoRoom (P.view self.old.pmap) (P.view self.new.pmap) (memory_state (P.view self.old.pmap) self.old.tables self.old.counts) (memory_state (P.view self.new.pmap) self.new.tables self.new.counts) (page_in region page) e) }
+        requires missed { serves ((seen P.view self.old).held at.space at.page) write ≡ false }
+        ensures reaches { MatchResult result (λ x. Reaching P.view self.old self.new at.space at.page write x) (λ e. Roomless P.view self.old self.new (page_in region at.page) e) }
         ensures kept { P.kept self.new.pmap }
     {
+        let Place { space, page } = at;
         let brought = self.bring(object_page(&region, page))?;
         self.pmap
             .enter(space, page, brought.frame, region.protection, false)?;
@@ -56,9 +51,8 @@ impl<P: Pmap> Memory<P> {
 
     // The frame of the place's object page: a hit, or a fault.
     pub fn reach(&mut self, space: u8, page: u32, write: bool) -> Result<Reached, MemoryRefusal>
-        requires kept { P.kept self.old.pmap }
-        requires ready { Ready (P.view self.old.pmap) (memory_state (P.view self.old.pmap) self.old.tables self.old.counts) }
-        ensures reaches { MatchResult result (λ x. (access_refusal (memory_state (P.view self.old.pmap) self.old.tables self.old.counts) space page write ≡ None) × Reaches (P.view self.old.pmap) (P.view self.new.pmap) (memory_state (P.view self.old.pmap) self.old.tables self.old.counts) (memory_state (P.view self.new.pmap) self.new.tables self.new.counts) space page write x.frame x.report) (λ e. (access_refusal (memory_state (P.view self.old.pmap) self.old.tables self.old.counts) space page write ≡ Some e) × Unmoved (P.view self.old.pmap) (P.view self.new.pmap) (memory_state (P.view self.old.pmap) self.old.tables self.old.counts) (memory_state (P.view self.new.pmap) self.new.tables self.new.counts)) }
+        requires { Whole P.view P.kept self.old }
+        ensures reaches { MatchResult result (λ x. (access_refusal (state P.view self.old) space page write ≡ None) × Reaching P.view self.old self.new space page write x) (λ e. (access_refusal (state P.view self.old) space page write ≡ Some e) × Still P.view self.old self.new) }
         ensures kept { P.kept self.new.pmap }
     {
         if !fits_place(space, page) {
@@ -71,7 +65,7 @@ impl<P: Pmap> Memory<P> {
             return Err(MemoryRefusal::ReadOnly);
         }
         let Access::Hit(frame) = self.pmap.access(space, page, write)? else {
-            return self.fault(region, space, page, write);
+            return self.fault(region, Place { space, page }, write);
         };
         Ok(Reached {
             frame,

@@ -5,11 +5,11 @@ ghost use Rattle.calls.specs.declared.Call.TheVariants.{Map, Unmap, Protect};
 ghost use Rattle.rules.specs.Lists.{first as first_of};
 ghost use Rattle.rules.specs.Refusals.{begins, fits_map, region_refusal};
 ghost use Rattle.rules.specs.Good.{RegionFits};
-ghost use Rattle.memory_meaning.specs.Ready.{memory_state, Ready};
-ghost use Rattle.memory_meaning.specs.Leaves.{Serves};
 ghost use Rattle.memory_meaning.specs.Replies.{done_reply, FreeAt, Restricts};
+ghost use Rattle.memory.specs.Whole.{state, Serving};
 
 use crate::memory::Memory;
+use crate::parts::Parts;
 use memory_meaning::pages::{lower_pages, remove_pages};
 use pmap::interface::Pmap;
 use pmap::range::{PAGES, fits_place};
@@ -18,14 +18,14 @@ use refusal::pmap::PmapRefusal;
 use rules::region::Region;
 
 // Whether the numbers of a map are all in range.
-fn fits_map(space: u8, page: u32, count: u16, object: u8, offset: u8, protection: u8) -> bool
-    ensures { result ≡ fits_map space page count object offset protection }
+fn fits_map(region: Region) -> bool
+    ensures { result ≡ fits_map region.space region.first region.count region.object region.offset region.protection }
 {
-    fits_protect(space, page, protection)
-        && object < 8
-        && 0 < count
-        && u32::from(count) <= PAGES - page
-        && count <= 256 - u16::from(offset)
+    fits_protect(region.space, region.first, region.protection)
+        && region.object < 8
+        && 0 < region.count
+        && u32::from(region.count) <= PAGES - region.first
+        && region.count <= 256 - u16::from(region.offset)
 }
 
 // Whether the numbers of a protect are all in range.
@@ -52,44 +52,10 @@ fn restrict_region<P: Pmap>(
     lower_pages(pmap, region.space, region.first, region.count)
 }
 
-impl<P: Pmap> Memory<P> {
-    // Adds a region.
-    pub(crate) fn map_region(
-        &mut self,
-        space: u8,
-        page: u32,
-        count: u16,
-        object: u8,
-        offset: u8,
-        protection: u8,
-    ) -> Result<(), MemoryRefusal>
-        requires { (P.kept self.old.pmap) × (Ready (P.view self.old.pmap) (memory_state (P.view self.old.pmap) self.old.tables self.old.counts)) }
-        ensures serves { Serves (P.view self.old.pmap) (P.view self.new.pmap) (memory_state (P.view self.old.pmap) self.old.tables self.old.counts) (memory_state (P.view self.new.pmap) self.new.tables self.new.counts) (Map space page count object offset protection) (done_reply result) }
-        ensures kept { P.kept self.new.pmap }
-    {
-        if !fits_map(space, page, count, object, offset, protection) {
-            return Err(MemoryRefusal::Range);
-        }
-        if self.tables.overlaps(space, page, count) {
-            return Err(MemoryRefusal::Overlap);
-        }
-        if self.tables.regions.len() >= 64 {
-            return Err(MemoryRefusal::RegionsFull);
-        }
-        self.tables.add_region(Region {
-            space,
-            first: page,
-            count,
-            object,
-            offset,
-            protection,
-        });
-        Ok(())
-    }
-
+impl<P: Pmap> Parts<P> {
     // The position of the region that begins at a page, if it has no wired place.
     fn region_free(&self, space: u8, page: u32) -> Result<usize, MemoryRefusal>
-        ensures { MatchResult result (λ at. FreeAt (memory_state (P.view self.now.pmap) self.now.tables self.now.counts) space page at) (λ e. region_refusal (memory_state (P.view self.now.pmap) self.now.tables self.now.counts) (first_of (begins space page) (memory_state (P.view self.now.pmap) self.now.tables self.now.counts).regions) ≡ Some e) }
+        ensures { MatchResult result (λ at. FreeAt (state P.view self.now) space page at) (λ e. region_refusal (state P.view self.now) (first_of (begins space page) (state P.view self.now).regions) ≡ Some e) }
     {
         let Some(at) = self.tables.region_at(space, page) else {
             return Err(MemoryRefusal::NoRegion);
@@ -99,20 +65,48 @@ impl<P: Pmap> Memory<P> {
         }
         Ok(at)
     }
+}
+
+impl<P: Pmap> Memory<P> {
+    // Adds a region.
+    pub(crate) fn map_region(&mut self, region: Region) -> Result<(), MemoryRefusal>
+        ensures { Serving P.view self.old self.new (Map region.space region.first region.count region.object region.offset region.protection) (done_reply result) }
+    {
+        if !fits_map(region) {
+            return Err(MemoryRefusal::Range);
+        }
+        let Region {
+            space,
+            first,
+            count,
+            ..
+        } = region;
+        if self.parts.tables.overlaps(space, first, count) {
+            return Err(MemoryRefusal::Overlap);
+        }
+        if self.parts.tables.regions.len() >= 64 {
+            return Err(MemoryRefusal::RegionsFull);
+        }
+        self.parts.tables.add_region(region);
+        Ok(())
+    }
 
     // Removes a region and the mappings of its pages.
     pub(crate) fn unmap_region(&mut self, space: u8, page: u32) -> Result<(), MemoryRefusal>
-        requires { (P.kept self.old.pmap) × (Ready (P.view self.old.pmap) (memory_state (P.view self.old.pmap) self.old.tables self.old.counts)) }
-        ensures serves { Serves (P.view self.old.pmap) (P.view self.new.pmap) (memory_state (P.view self.old.pmap) self.old.tables self.old.counts) (memory_state (P.view self.new.pmap) self.new.tables self.new.counts) (Unmap space page) (done_reply result) }
-        ensures kept { P.kept self.new.pmap }
+        ensures { Serving P.view self.old self.new (Unmap space page) (done_reply result) }
     {
         if !fits_place(space, page) {
             return Err(MemoryRefusal::Range);
         }
-        let at = self.region_free(space, page)?;
-        let region = self.tables.regions[at];
-        remove_pages(&mut self.pmap, region.space, region.first, region.count)?;
-        self.tables.remove_region(at);
+        let at = self.parts.region_free(space, page)?;
+        let Region {
+            space,
+            first,
+            count,
+            ..
+        } = self.parts.tables.regions[at];
+        remove_pages(&mut self.parts.pmap, space, first, count)?;
+        self.parts.tables.remove_region(at);
         Ok(())
     }
 
@@ -123,17 +117,15 @@ impl<P: Pmap> Memory<P> {
         page: u32,
         protection: u8,
     ) -> Result<(), MemoryRefusal>
-        requires { (P.kept self.old.pmap) × (Ready (P.view self.old.pmap) (memory_state (P.view self.old.pmap) self.old.tables self.old.counts)) }
-        ensures serves { Serves (P.view self.old.pmap) (P.view self.new.pmap) (memory_state (P.view self.old.pmap) self.old.tables self.old.counts) (memory_state (P.view self.new.pmap) self.new.tables self.new.counts) (Protect space page protection) (done_reply result) }
-        ensures kept { P.kept self.new.pmap }
+        ensures { Serving P.view self.old self.new (Protect space page protection) (done_reply result) }
     {
         if !fits_protect(space, page, protection) {
             return Err(MemoryRefusal::Range);
         }
-        let at = self.region_free(space, page)?;
-        let region = self.tables.regions[at];
-        restrict_region(&mut self.pmap, &region, protection)?;
-        self.tables.protect_region(at, protection);
+        let at = self.parts.region_free(space, page)?;
+        let region = self.parts.tables.regions[at];
+        restrict_region(&mut self.parts.pmap, &region, protection)?;
+        self.parts.tables.protect_region(at, protection);
         Ok(())
     }
 }

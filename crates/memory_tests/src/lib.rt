@@ -19,19 +19,21 @@ mod tests {
         let Ok(ran) = run(heap, Minimal::new(), 1, &calls) else {
             return Err(Fail::new("no memory was made"));
         };
-        let mut range = 0usize;
-        let mut limit = 0usize;
-        for reply in ran.replies.iter() {
-            match reply {
-                Err(MemoryRefusal::Range) => range = range.saturating_add(1),
-                Err(MemoryRefusal::CallLimit) => limit = limit.saturating_add(1),
-                _ => (),
-            }
-        }
+        let range = ran
+            .replies
+            .iter()
+            .filter(|reply| **reply == Err(MemoryRefusal::Range))
+            .count();
+        let limit = ran
+            .replies
+            .iter()
+            .filter(|reply| **reply == Err(MemoryRefusal::CallLimit))
+            .count();
         assert_eq!(rt; range, 1_000_000);
         assert_eq!(rt; limit, 1);
-        assert_eq!(rt; ran.memory.counts.calls, 1_000_000);
-        assert_eq!(rt; ran.memory.counts.refused, 1_000_000);
+        let counts = ran.memory.counts();
+        assert_eq!(rt; counts.calls, 1_000_000);
+        assert_eq!(rt; counts.refused, 1_000_000);
         Ok(())
     }
 }

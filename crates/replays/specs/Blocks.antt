@@ -3,20 +3,17 @@ use Rattle.std.specs.Prelude.{ℕ, zero, suc, ◌+◌, ◌/◌, ◌%◌, Bool, t
 use Rattle.refusal.specs.declared.code.Code.{Code}
 use Rattle.refusal.specs.declared.file.FileRefusal.{FileRefusal}
 use Rattle.refusal.specs.Codes.{file_code, memory_code}
-use Rattle.refusal.specs.Letters.{letter}
-use Rattle.trace.specs.declared.record.Record.{Record}
+use Rattle.refusal.specs.Letters.{code_words}
+use Rattle.calls.specs.declared.Call.{Call}
 use Rattle.trace.specs.declared.record.Entry.{Entry}
 use Rattle.rules.specs.declared.answer.Answer.{Answer}
 use Rattle.rules.specs.declared.answer.Answer.TheVariants.{Done, Read as ReadAnswer, Wrote, Wired, Synced}
 use Rattle.rules.specs.declared.counts.Counts.{Counts}
+use Rattle.rules.specs.State.{State, is_modified}
 use Rattle.rules.specs.Rules.{Reply}
 use Rattle.replays.specs.declared.refused.Inner.{Inner}
 use Rattle.replays.specs.declared.refused.Inner.TheVariants.{File, Memory}
 use Rattle.replays.specs.declared.refused.ReplayRefusal.{ReplayRefusal}
-
-abbrev pub numbered : {T E : Type 0} → ℕ → Result T E → Result T (ℕ × E)
-numbered n (Ok x) = Ok x
-numbered n (Err e) = Err (n, e)
 
 -- the number and the layer are those of the inner refusal
 abbrev pub inner_code : Inner → Code
@@ -31,22 +28,26 @@ abbrev pub memory_outcome : ℕ → Reply → Result Answer ReplayRefusal
 memory_outcome n (Ok a) = Ok a
 memory_outcome n (Err e) = Err (record { number = n; inner = Memory e })
 
-abbrev pub outcome_by : ℕ → Result Record FileRefusal → Reply → Result Answer ReplayRefusal
+abbrev pub outcome_by : ℕ → Result Call FileRefusal → Reply → Result Answer ReplayRefusal
 outcome_by n (Ok r) reply = memory_outcome n reply
 outcome_by n (Err e) reply = Err (record { number = n; inner = File e })
 
 abbrev pub outcome_of : Entry → Reply → Result Answer ReplayRefusal
 outcome_of e reply = outcome_by e.number e.content reply
 
+-- the number of a record and what its refusal is known by
+abbrev pub refusal_words : ReplayRefusal → List ℕ
+refusal_words r = decimal r.number ++ (codes " " ++ code_words (replay_code r))
+
 -- the line of a record: a read's word, or a refusal; an accepted call of another kind has none
-abbrev pub refused_line : ℕ → Code → List ℕ
-refused_line n code = codes "refused " ++ (decimal n ++ (codes " " ++ (decimal code.number ++ (codes " " ++ (letter code.layer ++ codes "\n")))))
+abbrev pub refused_line : ReplayRefusal → List ℕ
+refused_line r = codes "refused " ++ (refusal_words r ++ codes "\n")
 
 abbrev pub read_line : ℕ → ℕ → List ℕ
 read_line n word = codes "read " ++ (decimal n ++ (codes " " ++ (decimal word ++ codes "\n")))
 
 abbrev pub outcome_line : ℕ → Result Answer ReplayRefusal → List ℕ
-outcome_line n (Err r) = refused_line r.number (replay_code r)
+outcome_line n (Err r) = refused_line r
 outcome_line n (Ok Done) = []
 outcome_line n (Ok (ReadAnswer x)) = read_line n x.word
 outcome_line n (Ok (Wrote x)) = []
@@ -58,7 +59,7 @@ abbrev pub next_reply : List Reply → Reply
 next_reply [] = Ok Done
 next_reply (r ∷ rs) = r
 
-abbrev pub used : Result Record FileRefusal → ℕ
+abbrev pub used : Result Call FileRefusal → ℕ
 used (Ok r) = 1
 used (Err e) = 0
 
@@ -95,3 +96,10 @@ block_tail counts modified = access_counts counts ++ (page_counts counts ++ dirt
 
 abbrev pub block_text : List ℕ → List Entry → List Reply → Counts → (ℕ → Bool) → List ℕ
 block_text name entries replies counts modified = block_head name ++ (lines_of entries replies ++ block_tail counts modified)
+
+-- the same of a memory's state
+abbrev pub tail_of : State → List ℕ
+tail_of s = block_tail s.counts (is_modified s)
+
+abbrev pub block_of : List ℕ → List Entry → List Reply → State → List ℕ
+block_of name entries replies s = block_text name entries replies s.counts (is_modified s)

@@ -1,21 +1,22 @@
 // A refusal met in a replay: the inner refusal whole, and the number of its record.
-ghost use Rattle.std.specs.Prelude.{◌≡◌};
+ghost use Rattle.std.specs.Prelude.{◌≡◌, Some};
 ghost use Rattle.replays.specs.declared.refused.Inner.TheVariants.{File, Memory};
-ghost use Rattle.replays.specs.Blocks.{numbered, outcome_of, replay_code};
+ghost use Rattle.replays.specs.Blocks.{outcome_of, replay_code, refusal_words};
 
 use refusal::code::{Code, Refusal};
 use refusal::file::FileRefusal;
 use refusal::memory::MemoryRefusal;
 use rules::answer::{Answer, Reply};
+use std::fmt;
 use trace::record::Entry;
 
-#[derive(Clone, Copy)]
+#[derive(Clone, Copy, PartialEq, Eq, Debug)]
 pub enum Inner {
     File(FileRefusal),
     Memory(MemoryRefusal),
 }
 
-#[derive(Clone, Copy)]
+#[derive(Clone, Copy, PartialEq, Eq, Debug)]
 pub struct ReplayRefusal {
     pub number: u32,
     pub inner: Inner,
@@ -54,13 +55,12 @@ impl Refusal for ReplayRefusal {
     }
 }
 
-// A refusal with the number of the record that met it.
-fn at<T, E>(number: u32, r: Result<T, E>) -> Result<T, (u32, E)>
-    ensures { result ≡ numbered number r }
-{
-    match r {
-        Ok(x) => Ok(x),
-        Err(e) => Err((number, e)),
+// The number of its record, and what it is known by.
+impl fmt::Display for ReplayRefusal {
+    ghost output = { λ refusal. Some (refusal_words refusal) };
+
+    fn fmt<W: fmt::Write>(&self, f: &mut fmt::Formatter<W>) -> fmt::Result {
+        write!(f, "{} {}", self.number, self.code())
     }
 }
 
@@ -68,7 +68,8 @@ fn at<T, E>(number: u32, r: Result<T, E>) -> Result<T, (u32, E)>
 pub fn outcome(item: &Entry, reply: Reply) -> Result<Answer, ReplayRefusal>
     ensures { result ≡ outcome_of item.now reply }
 {
-    at(item.number, item.content)?;
-    let answer = at(item.number, reply)?;
+    let number = item.number;
+    item.content.map_err(|refusal| (number, refusal))?;
+    let answer = reply.map_err(|refusal| (number, refusal))?;
     Ok(answer)
 }

@@ -1,14 +1,16 @@
 // A run of calls on a memory that is made for it.
 ghost use Rattle.std.specs.Prelude.{◌≡◌, ◌≤◌, [], length, Ok, Err, vec_len, vec_capacity};
-ghost use Rattle.memory_meaning.specs.Ready.{memory_state, Ready};
-ghost use Rattle.memory.specs.Making.{NotMade};
+ghost use Rattle.refusal.specs.Making.{GivenBack};
+ghost use Rattle.memory.specs.Making.{fits_frames};
+ghost use Rattle.memory.specs.Whole.{state};
 ghost use Rattle.runs.specs.RunLaw.{Trail, RunLaw};
 
 use calls::Call;
-use memory::making::{Unmade, fits_frames};
+use memory::making::fits_frames;
 use memory::memory::Memory;
 use pmap::interface::Pmap;
 use refusal::file::FileRefusal;
+use refusal::making::NotMade;
 use rules::answer::Reply;
 use std::alloc::Global;
 
@@ -21,14 +23,10 @@ pub struct Ran<P: Pmap> {
 
 // Gives the memory each call in turn. The replies have their place reserved.
 fn drive<P: Pmap>(memory: &mut Memory<P>, calls: &[Call], replies: &mut Vec<Reply>, frames: u16)
-    requires kept { P.kept memory.old.pmap }
-    requires ready { Ready (P.view memory.old.pmap) (memory_state (P.view memory.old.pmap) memory.old.tables memory.old.counts) }
-    requires begun { Trail frames [] replies.old.items (memory_state (P.view memory.old.pmap) memory.old.tables memory.old.counts) }
+    requires begun { Trail frames [] replies.old.items (state P.view memory.old) }
     requires empty { vec_len replies.old ≡ 0 }
     requires room { length calls.now ≤ vec_capacity replies.old }
-    ensures trail { Trail frames calls.now replies.new.items (memory_state (P.view memory.new.pmap) memory.new.tables memory.new.counts) }
-    ensures ready { Ready (P.view memory.new.pmap) (memory_state (P.view memory.new.pmap) memory.new.tables memory.new.counts) }
-    ensures kept { P.kept memory.new.pmap }
+    ensures { Trail frames calls.now replies.new.items (state P.view memory.new) }
 {
     for call in calls {
         let reply = memory.call(*call);
@@ -38,15 +36,19 @@ fn drive<P: Pmap>(memory: &mut Memory<P>, calls: &[Call], replies: &mut Vec<Repl
 
 // Makes a memory of `frames` frames over the pmap, and gives it the calls. What the calls need is reserved before the first of
 // them, so that want of memory is an answer of the making alone.
-pub fn run<P: Pmap>(heap: Global, pmap: P, frames: u16, calls: &[Call]) -> Result<Ran<P>, Unmade<P>>
-    ensures law { elim result [ Ok x ↦ RunLaw frames calls.now x.replies.items (memory_state (P.view x.memory.pmap) x.memory.tables x.memory.counts) | Err e ↦ NotMade frames pmap e ] }
-    ensures keeps { elim result [ Ok x ↦ Ready (P.view x.memory.pmap) (memory_state (P.view x.memory.pmap) x.memory.tables x.memory.counts) × P.kept x.memory.pmap | Err e ↦ Unit {0} ] }
+pub fn run<P: Pmap>(
+    heap: Global,
+    pmap: P,
+    frames: u16,
+    calls: &[Call],
+) -> Result<Ran<P>, NotMade<P>>
+    ensures { elim result [ Ok x ↦ RunLaw frames calls.now x.replies.items (state P.view x.memory) | Err e ↦ GivenBack (fits_frames frames) pmap e ] }
 {
     if !fits_frames(frames) {
-        return Err(Unmade::Refused(FileRefusal::Size, pmap));
+        return Err(NotMade::Refused(FileRefusal::Size, pmap));
     }
     let Ok(mut replies) = Vec::with_capacity(heap, calls.len()) else {
-        return Err(Unmade::NoMemory(pmap));
+        return Err(NotMade::NoMemory(pmap));
     };
     let mut memory = Memory::new(heap, pmap, frames)?;
     drive(&mut memory, calls, &mut replies, frames);

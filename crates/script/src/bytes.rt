@@ -1,13 +1,12 @@
 // The bytes of a trace.
 ghost use Rattle.std.specs.Prelude.{◌≡◌, Ok, MatchResult};
-ghost use Rattle.script.specs.Made.{bytes_from, record_of_call, trace_of, Refuses};
+ghost use Rattle.script.specs.Made.{bytes_from, trace_of, Refuses};
 ghost use Rattle.script.specs.declared.bytes.Unmade.TheVariants.{File, Memory};
 
 use calls::Call;
 use refusal::file::FileRefusal;
 use std::alloc::{AllocError, Global};
 use trace::encode::{encode, encode_frames};
-use trace::record::Record;
 
 // The most records of a trace.
 const MAX_RECORDS: usize = 5_461;
@@ -36,50 +35,12 @@ impl From<AllocError> for Unmade {
     }
 }
 
-// The record that spells a call.
-fn record_of(call: Call) -> Record
-    ensures { result ≡ record_of_call call }
-{
-    match call {
-        Call::Map {
-            space,
-            page,
-            count,
-            object,
-            offset,
-            protection,
-        } => Record::Map {
-            space,
-            page,
-            count,
-            object,
-            offset,
-            protection,
-        },
-        Call::Unmap { space, page } => Record::Unmap { space, page },
-        Call::Protect {
-            space,
-            page,
-            protection,
-        } => Record::Protect {
-            space,
-            page,
-            protection,
-        },
-        Call::Read { space, page } => Record::Read { space, page },
-        Call::Write { space, page, word } => Record::Write { space, page, word },
-        Call::Wire { space, page } => Record::Wire { space, page },
-        Call::Unwire { space, page } => Record::Unwire { space, page },
-        Call::Sync { object } => Record::Sync { object },
-    }
-}
-
 // Puts the bytes of one call after another behind some bytes.
 fn push_records(bytes: &mut Vec<u8>, calls: &[Call]) -> Result<(), Unmade>
     ensures { MatchResult result (λ _. bytes_from bytes.old.items calls.now ≡ Ok bytes.new.items) (Refuses (bytes_from bytes.old.items calls.now)) }
 {
     for call in calls {
-        let Some(spelled) = encode(record_of(*call)) else {
+        let Some(spelled) = encode(*call) else {
             return Err(Unmade::Misfit(*call));
         };
         bytes.extend_from_slice(&spelled)?;

@@ -1,13 +1,14 @@
 -- Encoding and decoding undo one another.
-use Rattle.std.proofs.Common.{◌≡◌, ℕ, zero, suc, ◌+◌, ◌*◌, ◌/◌, ◌%◌, ◌^◌, ◌<◌, Bool, true, false, cond, List, get_or, Some, None, Ok, Err, Option, Result, sym, refl, ap, ◌∙◌, add-zero, add-suc, div-one, arith}
+use Rattle.std.proofs.Common.{◌≡◌, ℕ, zero, suc, ◌+◌, ◌*◌, ◌/◌, ◌%◌, ◌^◌, ◌<◌, Bool, true, false, cond, List, get_or, Some, None, Ok, Err, IfSome, Option, Result, sym, refl, ap, ◌∙◌, add-zero, add-suc, div-one, arith}
 use lib.Arith.{digits_div, digits_mod}
 use Rattle.std.proofs.lemmas.Nat.{shr-shr}
 use Rattle.std.proofs.lemmas.Bool.Decides.{nat_tests}
 use Rattle.refusal.specs.declared.file.FileRefusal.{FileRefusal}
 use Rattle.std.specs.Option.{option_map}
 use Rattle.trace.specs.declared.fields.Fields.{Fields}
-use Rattle.trace.specs.declared.record.Record.{Record}
-use Rattle.trace.specs.declared.record.Record.TheVariants.{Map, Unmap, Protect, Read, Write, Wire, Unwire, Sync}
+use Rattle.calls.specs.declared.Call.{Call}
+use Rattle.calls.specs.declared.Call.TheVariants.{Map, Unmap, Protect, Read, Write, Wire, Unwire, Sync}
+use Rattle.calls.specs.declared.operation.Values.{Values}
 use Rattle.trace.specs.Format.{number, fields_of, content_of, content_at, fields_in, fit, packed, bytes_of, encoded, window, Own}
 
 -- the lowest `j` of the bytes do not matter above them
@@ -46,8 +47,8 @@ bytes_number n h = omega arith
 pub packed_fields : (n : ℕ) → n < 2 ^ 96 → packed (fields_of n) ≡ n
 packed_fields n h = omega arith
 
--- a record spells itself
-pub content_in : (r : Record) → content_of (fields_in r) ≡ Ok r
+-- a call spells itself
+pub content_in : (r : Call) → content_of (fields_in r) ≡ Ok r
 content_in (Map s p c o f q) = refl
 content_in (Unmap s p) = refl
 content_in (Protect s p q) = refl
@@ -57,26 +58,29 @@ content_in (Wire s p) = refl
 content_in (Unwire s p) = refl
 content_in (Sync o) = refl
 
-pub same_fields : (f g : Fields) → f.operation ≡ g.operation → f.space ≡ g.space → f.page ≡ g.page → f.count ≡ g.count → f.object ≡ g.object
-    → f.offset ≡ g.offset → f.protection ≡ g.protection → f.zero ≡ g.zero → f.word ≡ g.word → f ≡ g
-same_fields f g e0 e1 e2 e3 e4 e5 e6 e7 e8 =
-    λ i. record { operation = e0 i; space = e1 i; page = e2 i; count = e3 i; object = e4 i; offset = e5 i; protection = e6 i; zero = e7 i; word = e8 i }
+pub same_fields : (f g : Fields) → f.operation ≡ g.operation → f.values ≡ g.values → f.zero ≡ g.zero → f ≡ g
+same_fields f g e0 e1 e2 = λ i. record { operation = e0 i; values = e1 i; zero = e2 i }
 
--- the fields that spell a record are the record's
-pub content_own : (f : Fields) (r : Record) → content_of f ≡ Ok r → fields_in r ≡ f
+same_values : (f g : Values) → f.space ≡ g.space → f.page ≡ g.page → f.count ≡ g.count → f.object ≡ g.object
+    → f.offset ≡ g.offset → f.protection ≡ g.protection → f.word ≡ g.word → f ≡ g
+same_values f g e1 e2 e3 e4 e5 e6 e8 =
+    λ i. record { space = e1 i; page = e2 i; count = e3 i; object = e4 i; offset = e5 i; protection = e6 i; word = e8 i }
+
+-- the fields that spell a call are the call's
+pub content_own : (f : Fields) (r : Call) → content_of f ≡ Ok r → fields_in r ≡ f
 content_own f r e = grind (arith, nat_tests)
 
 -- each field fits its bits
 record Fitting (f : Fields) : Type 0 where
   operation : f.operation < 2 ^ 4
-  space : f.space < 2 ^ 4
-  page : f.page < 2 ^ 18
-  count : f.count < 2 ^ 9
-  object : f.object < 2 ^ 4
-  offset : f.offset < 2 ^ 8
-  protection : f.protection < 2 ^ 2
+  space : f.values.space < 2 ^ 4
+  page : f.values.page < 2 ^ 18
+  count : f.values.count < 2 ^ 9
+  object : f.values.object < 2 ^ 4
+  offset : f.values.offset < 2 ^ 8
+  protection : f.values.protection < 2 ^ 2
   zero : f.zero < 2 ^ 15
-  word : f.word < 2 ^ 32
+  word : f.values.word < 2 ^ 32
 
 fitting : (f : Fields) → fit f ≡ true → Fitting f
 fitting f h =
@@ -85,8 +89,9 @@ fitting f h =
 -- fields that fit can be read off the number that holds them
 fields_packed : (f : Fields) → Fitting f → fields_of (packed f) ≡ f
 fields_packed f h =
-    same_fields (fields_of (packed f)) f
-    (omega arith) (omega arith) (omega arith) (omega arith) (omega arith) (omega arith) (omega arith) (omega arith) (omega arith)
+    same_fields (fields_of (packed f)) f (omega arith)
+    (same_values (fields_of (packed f)).values f.values (omega arith) (omega arith) (omega arith) (omega arith) (omega arith) (omega arith) (omega arith))
+    (omega arith)
 
 packed_below : (f : Fields) → Fitting f → packed f < 2 ^ 96
 packed_below f h = omega arith
@@ -100,7 +105,7 @@ some_if true x y e = (refl, cc)
 some_if false x y e = let z : ◌≡◌ {A = ℕ} 0 1 = cc in absurd (omega arith)
 
 -- the bytes of a record, where its number is known
-pub encoded_by : (r : Record) (o : Option ℕ) → o ≡ cond (fit (fields_in r)) (Some (packed (fields_in r))) None → encoded r ≡ option_map bytes_of o
+pub encoded_by : (r : Call) (o : Option ℕ) → o ≡ cond (fit (fields_in r)) (Some (packed (fields_in r))) None → encoded r ≡ option_map bytes_of o
 unfolding encoded
 encoded_by r o e = by (fit (fields_in r)) (packed (fields_in r)) ∙ ap (option_map bytes_of) (sym e)
   where
@@ -109,7 +114,7 @@ encoded_by r o e = by (fit (fields_in r)) (packed (fields_in r)) ∙ ap (option_
     by false n = refl
 
 -- what is encoded spells the record that it was made from
-pub encoded_back : (r : Record) (bytes : List ℕ) → encoded r ≡ Some bytes → content_at bytes 0 ≡ Ok r
+pub encoded_back : (r : Call) (bytes : List ℕ) → encoded r ≡ Some bytes → content_at bytes 0 ≡ Ok r
 unfolding encoded content_at
 encoded_back r bytes e =
     let p = some_if (fit (fields_in r)) (bytes_of (packed (fields_in r))) bytes e in
@@ -117,8 +122,12 @@ encoded_back r bytes e =
     let n = ap (λ x. number x 0 12) (sym p.1) ∙ bytes_number (packed (fields_in r)) (packed_below (fields_in r) h) in
     ap (λ m. content_of (fields_of m)) n ∙ ap content_of (fields_packed (fields_in r) h) ∙ content_in r
 
+pub encoded_back_by : (r : Call) (o : Option (List ℕ)) → o ≡ encoded r → IfSome o (λ bytes. content_at bytes 0 ≡ Ok r)
+encoded_back_by r (Some bytes) e = encoded_back r bytes (sym e)
+encoded_back_by r None e = tt
+
 -- a record that a number spells is encoded to the number's bytes
-own_number : (n : ℕ) (r : Record) → n < 2 ^ 96 → content_of (fields_of n) ≡ Ok r → encoded r ≡ Some (bytes_of n)
+own_number : (n : ℕ) (r : Call) → n < 2 ^ 96 → content_of (fields_of n) ≡ Ok r → encoded r ≡ Some (bytes_of n)
 unfolding encoded
 own_number n r h e =
     ap (λ f. cond (fit f) (Some (bytes_of (packed f))) None) (content_own (fields_of n) r e)
@@ -126,7 +135,7 @@ own_number n r h e =
     ∙ ap (λ m. Some (bytes_of m)) (packed_fields n h)
 
 -- a record that a file spells is encoded to the bytes that spell it
-pub content_at_own : (x : Result Record FileRefusal) (b : List ℕ) (at : ℕ) → ((i : ℕ) → get_or b i 0 < 256) → x ≡ content_at b at → Own x b at
+pub content_at_own : (x : Result Call FileRefusal) (b : List ℕ) (at : ℕ) → ((i : ℕ) → get_or b i 0 < 256) → x ≡ content_at b at → Own x b at
 unfolding content_at
 content_at_own (Err _) b at h e = tt
 content_at_own (Ok r) b at h e =

@@ -3,11 +3,14 @@
 use Rattle.std.specs.Prelude.{◌≡◌, ℕ, zero, suc, ◌+◌, ◌-◌, ◌*◌, ◌/◌, ◌%◌, ◌^◌, Bool, true, cond, not, ◌&&◌, ◌||◌, List, [], ◌∷◌, map, length, Some, None, Ok, Err, Option, Result, ◌==◌, nat_le, nat_lt, slice_index}
 use Rattle.std.specs.List.{range_with_len}
 use Rattle.refusal.specs.declared.file.FileRefusal.{FileRefusal}
-use Rattle.refusal.specs.declared.file.FileRefusal.TheVariants.{Size, Cut, Operation, Field}
+use Rattle.refusal.specs.declared.file.FileRefusal.TheVariants.{Size, Cut, Operation as UnknownOperation, Field}
 use Rattle.trace.specs.declared.fields.Fields.{Fields}
 use Rattle.trace.specs.declared.record.Entry.{Entry}
-use Rattle.trace.specs.declared.record.Record.{Record}
-use Rattle.trace.specs.declared.record.Record.TheVariants.{Map, Unmap, Protect, Read, Write, Wire, Unwire, Sync}
+use Rattle.calls.specs.declared.Call.{Call}
+use Rattle.calls.specs.declared.operation.Operation.{Operation}
+use Rattle.calls.specs.declared.operation.Operation.TheVariants.{Map, Unmap, Protect, Read, Write, Wire, Unwire, Sync}
+use Rattle.calls.specs.declared.operation.Values.{Values}
+use Rattle.calls.specs.Operations.{number_of, operation_numbered, operation_of, call_of, values_in}
 
 -- the number that the `count` bytes from `at` on spell, most significant byte first
 abbrev pub number : List ℕ → ℕ → ℕ → ℕ
@@ -19,56 +22,47 @@ number bytes at (suc k) = number bytes at k * 256 + slice_index bytes (at + k)
 abbrev pub fields_of : ℕ → Fields
 fields_of n = record {
   operation = n / 2 ^ 92 % 2 ^ 4;
-  space = n / 2 ^ 88 % 2 ^ 4;
-  page = n / 2 ^ 70 % 2 ^ 18;
-  count = n / 2 ^ 61 % 2 ^ 9;
-  object = n / 2 ^ 57 % 2 ^ 4;
-  offset = n / 2 ^ 49 % 2 ^ 8;
-  protection = n / 2 ^ 47 % 2 ^ 2;
+  values = record {
+    space = n / 2 ^ 88 % 2 ^ 4;
+    page = n / 2 ^ 70 % 2 ^ 18;
+    count = n / 2 ^ 61 % 2 ^ 9;
+    object = n / 2 ^ 57 % 2 ^ 4;
+    offset = n / 2 ^ 49 % 2 ^ 8;
+    protection = n / 2 ^ 47 % 2 ^ 2;
+    word = n % 2 ^ 32;
+  };
   zero = n / 2 ^ 32 % 2 ^ 15;
-  word = n % 2 ^ 32;
 }
 
--- the zero field and the fields that an operation from 1 to 8 does not use
-abbrev pub unused : Fields → List ℕ
-unused f =
-    cond (f.operation == 1) (f.zero ∷ f.word ∷ [])
-    (cond (f.operation == 3) (f.count ∷ f.object ∷ f.offset ∷ f.zero ∷ f.word ∷ [])
-    (cond (f.operation == 5) (f.count ∷ f.object ∷ f.offset ∷ f.protection ∷ f.zero ∷ [])
-    (cond (f.operation == 8) (f.space ∷ f.page ∷ f.count ∷ f.offset ∷ f.protection ∷ f.zero ∷ f.word ∷ [])
-    (f.count ∷ f.object ∷ f.offset ∷ f.protection ∷ f.zero ∷ f.word ∷ []))))
+-- the fields that an operation does not use
+abbrev pub unused : Operation → Values → List ℕ
+unused Map v = v.word ∷ []
+unused Unmap v = v.count ∷ v.object ∷ v.offset ∷ v.protection ∷ v.word ∷ []
+unused Protect v = v.count ∷ v.object ∷ v.offset ∷ v.word ∷ []
+unused Read v = v.count ∷ v.object ∷ v.offset ∷ v.protection ∷ v.word ∷ []
+unused Write v = v.count ∷ v.object ∷ v.offset ∷ v.protection ∷ []
+unused Wire v = v.count ∷ v.object ∷ v.offset ∷ v.protection ∷ v.word ∷ []
+unused Unwire v = v.count ∷ v.object ∷ v.offset ∷ v.protection ∷ v.word ∷ []
+unused Sync v = v.space ∷ v.page ∷ v.count ∷ v.offset ∷ v.protection ∷ v.word ∷ []
 
 abbrev pub all_zero : List ℕ → Bool
 all_zero [] = true
 all_zero (n ∷ ns) = n == 0 && all_zero ns
 
-abbrev pub unused_zero : Fields → Bool
-unused_zero f = all_zero (unused f)
+-- whether the zero field, and each field that the operation does not use, is zero
+abbrev pub unused_zero : Operation → Fields → Bool
+unused_zero o f = f.zero == 0 && all_zero (unused o f.values)
 
--- the record of an operation from 1 to 8, which holds the fields that the operation uses
-abbrev pub record_of : Fields → Record
-record_of f =
-    cond (f.operation == 1) (Map f.space f.page f.count f.object f.offset f.protection)
-    (cond (f.operation == 2) (Unmap f.space f.page)
-    (cond (f.operation == 3) (Protect f.space f.page f.protection)
-    (cond (f.operation == 4) (Read f.space f.page)
-    (cond (f.operation == 5) (Write f.space f.page f.word)
-    (cond (f.operation == 6) (Wire f.space f.page)
-    (cond (f.operation == 7) (Unwire f.space f.page)
-    (Sync f.object)))))))
+-- refusal 3 where the operation is 0 or above 8, else 4 where a field that is to be zero is not, else the call
+abbrev pub content_by : Option Operation → Fields → Result Call FileRefusal
+content_by None f = Err UnknownOperation
+content_by (Some o) f = cond (unused_zero o f) (Ok (call_of o f.values)) (Err Field)
 
--- an operation that there is not
-abbrev pub unknown : ℕ → Bool
-unknown operation = operation == 0 || nat_lt 8 operation
-
--- refusal 3 where the operation is 0 or above 8, else 4 where a field that is to be zero is not, else the record
-abbrev pub content_of : Fields → Result Record FileRefusal
-content_of f =
-    cond (unknown f.operation) (Err Operation)
-    (cond (unused_zero f) (Ok (record_of f)) (Err Field))
+abbrev pub content_of : Fields → Result Call FileRefusal
+content_of f = content_by (operation_numbered f.operation) f
 
 -- what the twelve bytes from `at` on spell
-unfoldable pub content_at : List ℕ → ℕ → Result Record FileRefusal
+unfoldable pub content_at : List ℕ → ℕ → Result Call FileRefusal
 content_at bytes at = content_of (fields_of (number bytes at 12))
 
 -- the same with the record's number: the first record begins at 2
@@ -98,39 +92,28 @@ record_count bytes = (length bytes - 2) / 12
 abbrev pub entries_of : List ℕ → List Entry
 entries_of bytes = map (λ k. entry_at bytes (2 + 12 * k)) (range_with_len 0 (record_count bytes))
 
--- an operation at a place, with all other fields zero
-abbrev pub placed : ℕ → ℕ → ℕ → Fields
-placed operation s p = record { operation = operation; space = s; page = p; count = 0; object = 0; offset = 0; protection = 0; zero = 0; word = 0 }
-
--- the fields of a record: those that its operation does not use are zero
-abbrev pub fields_in : Record → Fields
-fields_in (Map s p c o f r) = record { operation = 1; space = s; page = p; count = c; object = o; offset = f; protection = r; zero = 0; word = 0 }
-fields_in (Unmap s p) = placed 2 s p
-fields_in (Protect s p r) = record { operation = 3; space = s; page = p; count = 0; object = 0; offset = 0; protection = r; zero = 0; word = 0 }
-fields_in (Read s p) = placed 4 s p
-fields_in (Write s p w) = record { operation = 5; space = s; page = p; count = 0; object = 0; offset = 0; protection = 0; zero = 0; word = w }
-fields_in (Wire s p) = placed 6 s p
-fields_in (Unwire s p) = placed 7 s p
-fields_in (Sync o) = record { operation = 8; space = 0; page = 0; count = 0; object = o; offset = 0; protection = 0; zero = 0; word = 0 }
+-- the fields of a call: those that its operation does not use are zero
+abbrev pub fields_in : Call → Fields
+fields_in call = record { operation = number_of (operation_of call); values = values_in call; zero = 0 }
 
 -- whether each field fits its bits
 abbrev pub fit : Fields → Bool
 fit f =
-    nat_lt f.operation (2 ^ 4) && nat_lt f.space (2 ^ 4) && nat_lt f.page (2 ^ 18) && nat_lt f.count (2 ^ 9) && nat_lt f.object (2 ^ 4)
-    && nat_lt f.offset (2 ^ 8) && nat_lt f.protection (2 ^ 2) && nat_lt f.zero (2 ^ 15) && nat_lt f.word (2 ^ 32)
+    nat_lt f.operation (2 ^ 4) && nat_lt f.values.space (2 ^ 4) && nat_lt f.values.page (2 ^ 18) && nat_lt f.values.count (2 ^ 9) && nat_lt f.values.object (2 ^ 4)
+    && nat_lt f.values.offset (2 ^ 8) && nat_lt f.values.protection (2 ^ 2) && nat_lt f.zero (2 ^ 15) && nat_lt f.values.word (2 ^ 32)
 
 -- the fields side by side in one number
 abbrev pub packed : Fields → ℕ
 packed f =
-    f.operation * 2 ^ 92 + f.space * 2 ^ 88 + f.page * 2 ^ 70 + f.count * 2 ^ 61 + f.object * 2 ^ 57
-    + f.offset * 2 ^ 49 + f.protection * 2 ^ 47 + f.zero * 2 ^ 32 + f.word
+    f.operation * 2 ^ 92 + f.values.space * 2 ^ 88 + f.values.page * 2 ^ 70 + f.values.count * 2 ^ 61 + f.values.object * 2 ^ 57
+    + f.values.offset * 2 ^ 49 + f.values.protection * 2 ^ 47 + f.zero * 2 ^ 32 + f.values.word
 
 -- the twelve bytes of a number, most significant first
 abbrev pub bytes_of : ℕ → List ℕ
 bytes_of n = map (λ k. n / 2 ^ (88 - 8 * k) % 256) (range_with_len 0 12)
 
 -- the bytes of a record whose fields fit
-unfoldable pub encoded : Record → Option (List ℕ)
+unfoldable pub encoded : Call → Option (List ℕ)
 encoded r = cond (fit (fields_in r)) (Some (bytes_of (packed (fields_in r)))) None
 
 -- the twelve bytes of a file from `at` on
@@ -138,7 +121,7 @@ abbrev pub window : List ℕ → ℕ → List ℕ
 window bytes at = map (λ k. slice_index bytes (at + k)) (range_with_len 0 12)
 
 -- a record that is handed out from `at` on is encoded to its own twelve bytes
-abbrev pub Own : Result Record FileRefusal → List ℕ → ℕ → Type 0
+abbrev pub Own : Result Call FileRefusal → List ℕ → ℕ → Type 0
 Own (Ok r) bytes at = encoded r ≡ Some (window bytes at)
 Own (Err _) bytes at = Unit {0}
 

@@ -1,9 +1,10 @@
 // The records of a trace file, handed out one after another.
-ghost use Rattle.std.specs.Prelude.{◌≡◌, ◌+◌, ◌-◌, ◌/◌, ◌%◌, ◌<◌, ◌≤◌, true, length, IfSome, is_ok, if◌then◌else◌, Some, None, nat_lt};
+ghost use Rattle.std.specs.Prelude.{◌≡◌, ◌+◌, ◌-◌, ◌/◌, ◌%◌, ◌<◌, ◌≤◌, true, length, IfSome, is_ok, if◌then◌else◌, ◌&&◌, Some, None, Ok, Err, nat_le, nat_lt};
 ghost use Rattle.trace.specs.Format.{number as number_at, content_at, entry_at, frame_count, checked, Own};
 
 use crate::fields::Fields;
-use crate::record::{Entry, Record};
+use crate::record::Entry;
+use calls::Call;
 use refusal::file::FileRefusal;
 
 // The most bytes that a trace file may have.
@@ -34,43 +35,35 @@ fn number_at(bytes: &[u8], at: usize) -> u128
     requires { at + 12 ≤ length bytes.now }
     ensures { result ≡ number_at bytes.now at 12 }
 {
-    u128::from_be_bytes([
-        0,
-        0,
-        0,
-        0,
-        bytes[at],
-        bytes[at + 1],
-        bytes[at + 2],
-        bytes[at + 3],
-        bytes[at + 4],
-        bytes[at + 5],
-        bytes[at + 6],
-        bytes[at + 7],
-        bytes[at + 8],
-        bytes[at + 9],
-        bytes[at + 10],
-        bytes[at + 11],
-    ])
+    let mut number = [0; 16];
+    number[4..].copy_from_slice(&bytes[at..at + RECORD_BYTES]);
+    u128::from_be_bytes(number)
 }
 
 // What the twelve bytes from a place on spell.
-fn content_at(bytes: &[u8], at: usize) -> Result<Record, FileRefusal>
+fn content_at(bytes: &[u8], at: usize) -> Result<Call, FileRefusal>
     requires { at + 12 ≤ length bytes.now }
     ensures value { result ≡ content_at bytes.now at }
     ensures own { Own result bytes.now at }
 {
-    Fields::of_number(number_at(bytes, at)).content()
+    Call::try_from(Fields::of_number(number_at(bytes, at)))
 }
 
 // The frame count that a file begins with, where it has one.
 fn frame_count(bytes: &[u8]) -> Option<u16>
     ensures { result ≡ (if nat_lt (length bytes.now) 2 then None else Some (frame_count bytes.now)) }
 {
-    let [high, low, ..] = bytes else {
-        return None;
-    };
-    Some(u16::from_be_bytes([*high, *low]))
+    bytes.first_chunk().copied().map(u16::from_be_bytes)
+}
+
+// Turns a frame count outside 1 to 256 away.
+pub(crate) fn check_frames(frames: u16) -> Result<(), FileRefusal>
+    ensures { result ≡ (if nat_le 1 frames && nat_le frames 256 then Ok tt else Err FileRefusal.Size) }
+{
+    if frames < 1 || frames > MAX_FRAMES {
+        return Err(FileRefusal::Size);
+    }
+    Ok(())
 }
 
 // The frame count of a file, or what turns the whole file away.
@@ -80,12 +73,8 @@ pub fn check_file(bytes: &[u8]) -> Result<u16, FileRefusal>
     if bytes.len() > MAX_BYTES {
         return Err(FileRefusal::Size);
     }
-    let Some(frames) = frame_count(bytes) else {
-        return Err(FileRefusal::Cut);
-    };
-    if frames < 1 || frames > MAX_FRAMES {
-        return Err(FileRefusal::Size);
-    }
+    let frames = frame_count(bytes).ok_or(FileRefusal::Cut)?;
+    check_frames(frames)?;
     if (bytes.len() - COUNT_BYTES) % RECORD_BYTES != 0 {
         return Err(FileRefusal::Cut);
     }

@@ -1,3 +1,4 @@
+use calls::Call;
 use refusal::code::Refusal;
 use refusal::file::FileRefusal;
 use std::alloc::Global;
@@ -5,10 +6,9 @@ use std::test::Fail;
 use trace::encode::{encode, encode_frames};
 use trace::listed::{ReadError, read_all};
 use trace::reader::{Reader, check_file};
-use trace::record::Record;
 
 // What the reader hands out of a file of one record.
-fn content(record: [u8; 12]) -> Result<Record, FileRefusal> {
+fn content(record: [u8; 12]) -> Result<Call, FileRefusal> {
     let [a, b, c, d, e, f, g, h, i, j, k, l] = record;
     let file = [0, 1, a, b, c, d, e, f, g, h, i, j, k, l];
     check_file(&file)?;
@@ -45,7 +45,7 @@ fn checked(heap: Global, frames: u16, len: usize) -> Result<Result<u16, FileRefu
 fn each_operation(rt: HostRuntime) {
     let cases = [
         (
-            Record::Map {
+            Call::Map {
                 space: 0,
                 page: 16,
                 count: 2,
@@ -56,7 +56,7 @@ fn each_operation(rt: HostRuntime) {
             [0x10, 0x00, 0x04, 0x00, 0x40, 0x01, 0x80, 0, 0, 0, 0, 0],
         ),
         (
-            Record::Map {
+            Call::Map {
                 space: 15,
                 page: 262_143,
                 count: 511,
@@ -67,14 +67,14 @@ fn each_operation(rt: HostRuntime) {
             [0x1f, 0xff, 0xff, 0xff, 0xff, 0xff, 0x80, 0, 0, 0, 0, 0],
         ),
         (
-            Record::Unmap {
+            Call::Unmap {
                 space: 1,
                 page: 74_565,
             },
             [0x21, 0x48, 0xd1, 0x40, 0, 0, 0, 0, 0, 0, 0, 0],
         ),
         (
-            Record::Protect {
+            Call::Protect {
                 space: 2,
                 page: 131_072,
                 protection: 1,
@@ -82,11 +82,11 @@ fn each_operation(rt: HostRuntime) {
             [0x32, 0x80, 0, 0, 0, 0, 0x80, 0, 0, 0, 0, 0],
         ),
         (
-            Record::Read { space: 3, page: 1 },
+            Call::Read { space: 3, page: 1 },
             [0x43, 0, 0, 0x40, 0, 0, 0, 0, 0, 0, 0, 0],
         ),
         (
-            Record::Write {
+            Call::Write {
                 space: 0,
                 page: 16,
                 word: 0x0102_0304,
@@ -94,21 +94,21 @@ fn each_operation(rt: HostRuntime) {
             [0x50, 0, 0x04, 0, 0, 0, 0, 0, 0x01, 0x02, 0x03, 0x04],
         ),
         (
-            Record::Wire {
+            Call::Wire {
                 space: 8,
                 page: 65_536,
             },
             [0x68, 0x40, 0, 0, 0, 0, 0, 0, 0, 0, 0, 0],
         ),
         (
-            Record::Unwire {
+            Call::Unwire {
                 space: 4,
                 page: 1_024,
             },
             [0x74, 0x01, 0, 0, 0, 0, 0, 0, 0, 0, 0, 0],
         ),
         (
-            Record::Sync { object: 7 },
+            Call::Sync { object: 7 },
             [0x80, 0, 0, 0, 0x0e, 0, 0, 0, 0, 0, 0, 0],
         ),
     ];
@@ -211,7 +211,7 @@ fn whole_files(rt: HostRuntime) -> Result<(), Fail> {
 #[test]
 fn misfits(rt: HostRuntime) {
     let cases = [
-        Record::Map {
+        Call::Map {
             space: 16,
             page: 0,
             count: 0,
@@ -219,7 +219,7 @@ fn misfits(rt: HostRuntime) {
             offset: 0,
             protection: 0,
         },
-        Record::Map {
+        Call::Map {
             space: 0,
             page: 262_144,
             count: 0,
@@ -227,7 +227,7 @@ fn misfits(rt: HostRuntime) {
             offset: 0,
             protection: 0,
         },
-        Record::Map {
+        Call::Map {
             space: 0,
             page: 0,
             count: 512,
@@ -235,7 +235,7 @@ fn misfits(rt: HostRuntime) {
             offset: 0,
             protection: 0,
         },
-        Record::Map {
+        Call::Map {
             space: 0,
             page: 0,
             count: 0,
@@ -243,7 +243,7 @@ fn misfits(rt: HostRuntime) {
             offset: 0,
             protection: 0,
         },
-        Record::Map {
+        Call::Map {
             space: 0,
             page: 0,
             count: 0,
@@ -251,7 +251,7 @@ fn misfits(rt: HostRuntime) {
             offset: 0,
             protection: 4,
         },
-        Record::Sync { object: 255 },
+        Call::Sync { object: 255 },
     ];
     for call in cases {
         assert_eq!(rt; encode(call), None);
@@ -294,7 +294,7 @@ fn turned_away(rt: HostRuntime) -> Result<(), Fail> {
             assert_eq!(rt; refusal.code().number, 1);
             Ok(())
         },
-        Err(ReadError::Memory) => Err(Fail::new("no memory")),
+        Err(ReadError::Memory(_)) => Err(Fail::new("no memory")),
         Ok(_) => Err(Fail::new("the file is read")),
     }
 }

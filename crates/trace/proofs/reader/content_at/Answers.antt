@@ -7,5 +7,5 @@ use Rattle.trace.proofs.reader.content_at.Goals as goal
 pub returns : goal.returns
 unfolding content_at
 returns c =
-    let value = c.content.ensures ∙ ap content_of (c.of_number.ensures ∙ ap fields_of c.number_at.ensures) in
-    record { value = value; own = content_at_own c.content.result c.args.bytes.now c.args.at (λ i. omega (arith, c.type_inv.bytes i)) value }
+    let value = c.try_from.ensures ∙ ap content_of (c.of_number.ensures ∙ ap fields_of c.number_at.ensures) in
+    record { value = value; own = content_at_own c.try_from.result c.args.bytes.now c.args.at (λ i. omega (arith, c.type_inv.bytes i)) value }
