@@ -1,17 +1,11 @@
 // What a reply adds to the counts.
 ghost use Rattle.std.specs.Prelude.{◌≡◌, ◌<◌, ◌≤◌, Ok};
-ghost use Rattle.rules.specs.Rules.{added as added_by, one as one_if, evictions as evictions_in, savings as savings_in, stored_in};
+ghost use Rattle.rules.specs.Rules.{added as added_by, evictions as evictions_in, savings as savings_in, stored_in};
 ghost use Rattle.rules.specs.declared.answer.Answer.TheVariants.{Wrote};
 ghost use Rattle.memory_meaning.specs.Ready.{Bounded};
 
 use rules::answer::{Answer, Evicted, Kind, Reply, Report};
 use rules::counts::Counts;
-
-fn one(b: bool) -> u32
-    ensures { result ≡ one_if b }
-{
-    if b { 1 } else { 0 }
-}
 
 // How many pages were evicted.
 fn evictions(evicted: Option<Evicted>) -> u32
@@ -32,18 +26,15 @@ fn accessed(n: &Counts, report: &Report) -> Counts
     requires { (Bounded n.now) × (n.now.calls < 1000000) }
     ensures { result ≡ added_by n.now (Ok (Wrote report.now)) }
 {
-    let hit = matches!(report.kind, Kind::Hit);
-    let soft = matches!(report.kind, Kind::Soft);
-    let hard = matches!(report.kind, Kind::Hard);
     Counts {
         calls: n.calls + 1,
-        refused: n.refused,
-        hits: n.hits + one(hit),
-        soft: n.soft + one(soft),
-        hard: n.hard + one(hard),
-        loads: n.loads + one(hard),
+        hits: n.hits + u32::from(report.kind == Kind::Hit),
+        soft: n.soft + u32::from(report.kind == Kind::Soft),
+        hard: n.hard + u32::from(report.kind == Kind::Hard),
+        loads: n.loads + u32::from(report.kind == Kind::Hard),
         evicted: n.evicted + evictions(report.evicted),
         stored: n.stored + savings(report.evicted),
+        ..*n
     }
 }
 
@@ -65,7 +56,7 @@ pub fn added(n: &Counts, reply: &Reply) -> Counts
         Ok(Answer::Wrote(report)) => accessed(n, report),
         Ok(Answer::Wired(wiring)) => Counts {
             calls: n.calls + 1,
-            loads: n.loads + one(wiring.loaded),
+            loads: n.loads + u32::from(wiring.loaded),
             evicted: n.evicted + evictions(wiring.evicted),
             stored: n.stored + savings(wiring.evicted),
             ..*n

@@ -1,11 +1,33 @@
 // Runs of pmap calls over the pages of a region.
-ghost use Rattle.std.specs.Prelude.{◌≡◌, ℕ, ◌+◌, ◌<◌, ◌≤◌, true, length, is_ok, Some, MatchResult};
-ghost use Rattle.pmap.specs.Meaning.{lowered};
-ghost use Rattle.memory_meaning.specs.Ranges.{Over, nothing};
+ghost use Rattle.std.specs.Prelude.{◌≡◌, ℕ, ◌+◌, ◌<◌, ◌≤◌, true, length, is_ok, Some, MatchResult, Option as Maybe};
+ghost use Rattle.pmap.specs.Meaning.{Mapping, lowered};
+ghost use Rattle.memory_meaning.specs.Ranges.{Over, EachChanges, nothing};
 ghost use Rattle.memory_meaning.specs.Storing.{StoresOne, StoresBelow, OnePageEach};
 
 use pmap::interface::Pmap;
 use refusal::pmap::PmapRefusal;
+
+// Changes the mappings of `count` pages from the first on, each by one call.
+fn change_pages<P: Pmap, F: Fn(&mut P, u32) -> Result<(), PmapRefusal>>(
+    pmap: &mut P,
+    space: u8,
+    first: u32,
+    count: u16,
+    change: F,
+) -> Result<(), PmapRefusal>
+    requires kept { P.kept pmap.old }
+    requires range { (space < 4) × (first + count ≤ 262144) }
+    requires takes { (y : _) (page : _) → P.kept y.now → F.pre change y page }
+    requires passes { (y z : _) (page : _) (r : _) → P.kept y.now → F.post change y page r z → page < 262144 → (is_ok r ≡ true) × P.kept z.now }
+    ensures passes { is_ok result ≡ true }
+    ensures changed { (to : Maybe Mapping → Maybe Mapping) → EachChanges (F.post change) (λ y. P.kept y.now) (λ y. P.view y.now) to space → Over to (P.view pmap.old) (P.view pmap.new) space first count }
+    ensures kept { P.kept pmap.new }
+{
+    for page in first..first + u32::from(count) {
+        change(pmap, page)?;
+    }
+    Ok(())
+}
 
 // Removes the mappings of `count` pages from the first on.
 pub fn remove_pages<P: Pmap>(
@@ -19,10 +41,13 @@ pub fn remove_pages<P: Pmap>(
     ensures removed { Over nothing (P.view pmap.old) (P.view pmap.new) space first count }
     ensures kept { P.kept pmap.new }
 {
-    for page in first..first + u32::from(count) {
-        pmap.remove(space, page)?;
-    }
-    Ok(())
+    change_pages(
+        pmap,
+        space,
+        first,
+        count,
+        |pmap, page| pmap.remove(space, page),
+    )
 }
 
 // Lowers the mappings of `count` pages from the first on.
@@ -37,13 +62,17 @@ pub fn lower_pages<P: Pmap>(
     ensures lowered { Over lowered (P.view pmap.old) (P.view pmap.new) space first count }
     ensures kept { P.kept pmap.new }
 {
-    for page in first..first + u32::from(count) {
-        pmap.lower(space, page)?;
-    }
-    Ok(())
+    change_pages(
+        pmap,
+        space,
+        first,
+        count,
+        |pmap, page| pmap.lower(space, page),
+    )
 }
 
 // Stores the word of object page `x` if it is a modified page of the object, and says whether it was.
+// A struct of the last five would be no plainer: they are borrowed apart, by one caller.
 pub fn store_page<P: Pmap>(
     x: usize,
     page: Option<u16>,

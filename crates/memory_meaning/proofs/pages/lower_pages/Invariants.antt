@@ -1,9 +1,0 @@
-use Rattle.std.proofs.Common.{◌-◌}
-use Rattle.memory_meaning.specs.Ranges.{Over}
-use Rattle.pmap.specs.Meaning.{lowered}
-use Rattle.memory_meaning.proofs.pages.lower_pages.Given as goal
-
-abbrev pub invariant-loop-page : goal.invariant-loop-page
-invariant-loop-page g l =
-    g.P.Pmap.kept l.pmap
-    × Over lowered (g.P.Pmap.view l.initial.pmap) (g.P.Pmap.view l.pmap) l.space l.first (l.page - l.first)
