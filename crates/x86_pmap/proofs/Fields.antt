@@ -96,10 +96,6 @@ module _ (w : ℕ) where
   unfolding frame_of put_off
   unwired_frame = ap (λ x. x % 256) (omega arith)
 
-pub frame_low_is : (w : ℕ) → frame_of w < 256
-unfolding frame_of
-frame_low_is w = omega arith
-
 -- a word in use stays one
 module _ (w : ℕ) (m : Mapped w) where
   pub mapped_present : present w ≡ true

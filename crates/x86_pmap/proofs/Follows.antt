@@ -7,9 +7,9 @@ use Rattle.slots.specs.Changes.{Emptied, GoneBit}
 use Rattle.x86_words.specs.Words.{present, dirty, frame_of, dirty_in}
 use Rattle.x86_words.specs.Walks.{walk}
 use Rattle.x86_words.specs.State.{State, word_at, reached, any_dirty}
-use Rattle.x86_words.proofs.Sweeps.{Emptying, any_dirty_is}
+use Rattle.x86_words.proofs.Sweeps.{Emptying, any_dirty_is, frame_low_is}
 use Rattle.x86_pmap.specs.Kept.{Kept, Points}
-use Rattle.x86_pmap.proofs.Fields.{points_same, zero_present, frame_low_is}
+use Rattle.x86_pmap.proofs.Fields.{points_same, zero_present}
 use Rattle.x86_pmap.proofs.Tables.{table, slot_of, slot_in, entry_of, Reaches, walk_reaches, page_cases, slot_nothing, slot_reached, slot_past, slot_used, word_placed, dirty_some}
 use Rattle.x86_pmap.proofs.Keeps.{Alike, alike_points, alike_zero}
 

@@ -1,6 +1,6 @@
 -- The calls that name a frame: drop and clear-modified.
 use Rattle.std.proofs.Common.{◌≡◌, ℕ, ◌+◌, ◌*◌, ◌%◌, ◌<◌, ◌≤◌, Bool, true, false, cond, ◌&&◌, eqb, length, get_or, set, Some, None, sym, refl, ap, ◌∙◌, subst, inl, inr, ⊎_elim, arith}
-use Rattle.std.proofs.lemmas.Bool.{and_parts, and_left, leb-true, le-leb, lt-leb, cond-true, cond-false, both_ways, cases_Bool}
+use Rattle.std.proofs.lemmas.Bool.{and_right, and_parts, and_left, leb-true, le-leb, lt-leb, cond-true, cond-false, both_ways, cases_Bool}
 use Rattle.std.proofs.lemmas.List.{get_or-set_same, get_or-set_other, length-set}
 use Rattle.std.proofs.lemmas.List.FromFn.{length-map-range_with_len}
 use Rattle.pmap.specs.Meaning.{Dropped, Unmarked}
@@ -111,11 +111,7 @@ module _ (st : State) (K : Kept st) (f : ℕ) where
   off_wired w false = refl
 
   off_zero : (k : ℕ) → k < 8192 → word_at st k ≡ 0 → word_at (bits_off st f) k ≡ 0
-  off_zero k h z = off_word k h ∙ cond-false (mapping st f k) _ _ (none (is_leaf k) (ap (λ w. maps w f) z ∙ and_left (present 0) _ zero_present)) ∙ z
-    where
-      none : (a : Bool) {b : Bool} → b ≡ false → (a && b) ≡ false
-      none true e = e
-      none false e = refl
+  off_zero k h z = off_word k h ∙ cond-false (mapping st f k) _ _ (and_right (is_leaf k) _ (ap (λ w. maps w f) z ∙ and_left (present 0) _ zero_present)) ∙ z
 
   off_kept : Kept (bits_off st f)
   off_kept = kin_kept st (bits_off st f) K

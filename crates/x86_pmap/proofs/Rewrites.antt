@@ -9,6 +9,9 @@ use Rattle.slots.specs.Slots.{Entry, Shows, Single}
 use Rattle.slots.specs.Changes.{Rewritten}
 use Rattle.slots.proofs.Shown.{unchanged_same, rewritten_here, rewritten_was, rewritten_others, rewritten_marks, rewritten_same_marks, added}
 use Rattle.x86_words.specs.declared.walk.Walk.{Walk}
+use Rattle.std.proofs.Math.Bool.{or-false}
+use Rattle.x86_words.specs.declared.word.Bit.{Bit}
+use Rattle.x86_words.specs.declared.word.Bit.TheVariants.{Writable, Wired}
 use Rattle.x86_words.specs.Words.{put_off, present, writable, dirty, wired, frame_of, protection_of, touched, read_only, unwired, hit_word, serves}
 use Rattle.x86_words.specs.Walks.{linear, walk}
 use Rattle.x86_words.specs.State.{State, word_at, written, rewritten, reached, found_in, rewritten_at, hit, accessed, access_answer}
@@ -35,10 +38,6 @@ pub record Reword (v u : View) (s p w z : ℕ) : Type 0 where
 -- the place holds nothing and nothing changes, or its word is changed
 abbrev pub Changed : State → (ℕ → ℕ) → ℕ → ℕ → State → Type 0
 Changed st change s p u = Kept u × ((((view_of st).held s p ≡ None) × Same (view_of st) (view_of u)) ⊎ ((w : ℕ) × Reword (view_of st) (view_of u) s p w (change w)))
-
-or_false : (a : Bool) → (a || false) ≡ a
-or_false true = refl
-or_false false = refl
 
 module _ (s p : ℕ) (x : s < 4) (y : p < 262144) where
   -- the place of a linear page
@@ -123,19 +122,15 @@ module _ (s p : ℕ) (x : s < 4) (y : p < 262144) where
           (λ l. rw (ap (λ w. reached w st (λ v. rewritten st v.leaf change)) l.1.walks) (changed_there l.0 l.1))
           (page_cases st K (linear s p) (page_inside s p x y))
 
-zero_read_only : read_only 0 ≡ 0
+zero_off : (b : Bit) → put_off b 0 ≡ 0
 unfolding put_off
-zero_read_only = refl
-
-zero_unwired : unwired 0 ≡ 0
-unfolding put_off
-zero_unwired = refl
+zero_off b = omega arith
 
 module _ (s p : ℕ) (x : s < 4) (y : p < 262144) (st : State) (K : Kept st) where
   -- lower
   pub lower_means : Kept (rewritten_at read_only st s p) × Put (view_of st) (view_of (rewritten_at read_only st s p)) s p (lowered ((view_of st).held s p))
   lower_means =
-      let c = changed s p x y st K read_only zero_read_only mapped_read_only read_only_frame read_only_dirty (λ w e. sym (read_only_wired w) ∙ e) in (
+      let c = changed s p x y st K read_only (zero_off Writable) mapped_read_only read_only_frame read_only_dirty (λ w e. sym (read_only_wired w) ∙ e) in (
         c.0,
         ⊎_elim
             (λ h. record { here = h.1.held s p ∙ h.0 ∙ sym (ap lowered h.0); others = λ a b far. h.1.held a b; marks = h.1.marks })
@@ -149,7 +144,7 @@ module _ (s p : ℕ) (x : s < 4) (y : p < 262144) (st : State) (K : Kept st) whe
   -- unwire
   pub unwire_means : Kept (rewritten_at unwired st s p) × Unwired (view_of st) (view_of (rewritten_at unwired st s p)) s p ((view_of st).held s p)
   unwire_means =
-      let c = changed s p x y st K unwired zero_unwired mapped_unwired unwired_frame unwired_dirty (λ w e. absurd (both_ways (wired (unwired w)) (unwired_wired w) e)) in (
+      let c = changed s p x y st K unwired (zero_off Wired) mapped_unwired unwired_frame unwired_dirty (λ w e. absurd (both_ways (wired (unwired w)) (unwired_wired w) e)) in (
         c.0,
         ⊎_elim
             (λ h. subst (Unwired (view_of st) (view_of (rewritten_at unwired st s p)) s p) (sym h.0) h.1)
@@ -262,7 +257,7 @@ module _ (s p : ℕ) (x : s < 4) (y : p < 262144) (st : State) (K : Kept st) (wr
           ∙ ap (λ f. added (view_of st).modified write f) (hit_frame w write ∙ ap frame_of same_word)
       marks false e =
           W.same (ap (λ b. dirty (hit_word b w)) e ∙ touched_dirty w) ∙ T.same.marks
-          ∙ fun_ext (λ g. sym (or_false ((view_of st).modified g)) ∙ ap (λ b. (view_of st).modified g || (b && eqb g (frame_of (word_at st k)))) (sym e))
+          ∙ fun_ext (λ g. sym (or-false ((view_of st).modified g)) ∙ ap (λ b. (view_of st).modified g || (b && eqb g (frame_of (word_at st k)))) (sym e))
 
   -- access
   Answers : State → Access → Type 0

@@ -1,5 +1,5 @@
 -- The sets of positions that the loops go over, and the searches in them.
-use Rattle.std.proofs.Common.{◌≡◌, ℕ, zero, suc, ◌+◌, ◌*◌, ◌/◌, ◌<◌, ◌≤◌, Bool, true, false, cond, ◌&&◌, ltb, leb, List, map, length, get_or, take, drop, ◌||◌, Decides, sym, refl, ap, ◌∙◌, ⊎_elim, add-one, map-id, arith}
+use Rattle.std.proofs.Common.{◌≡◌, ℕ, zero, suc, ◌+◌, ◌-◌, ◌*◌, ◌/◌, ◌<◌, ◌≤◌, Bool, true, false, cond, ◌&&◌, ltb, leb, List, map, length, get_or, take, drop, ◌||◌, Decides, sym, refl, ap, ◌∙◌, ⊎_elim, add-one, map-id, arith}
 use Rattle.std.proofs.Math.Nat.{add-suc}
 use Rattle.std.proofs.Math.Bool.{or_comm}
 use Rattle.std.proofs.lemmas.Bool.{cond-true, cond-false, and_left, and_from, le-leb, lt-leb, lt-ltb, le-ltb, ne_eqb, eq-eqb, cases_lt}
@@ -11,7 +11,8 @@ use Rattle.std.proofs.lemmas.List.{get_or_past, get_or-drop, take_all, length-dr
 use Rattle.pmap.specs.Tally.{tally}
 use Rattle.x86_words.specs.Words.{is_on, wired, maps, dirty_in, points_to, cleaned}
 use Rattle.x86_words.specs.State.{State, word_at, any_dirty, is_directory, mapping, in_leaf, any_wired, holds_wired, leaf_after, free_from, unlinked_word, unmarked_word}
-use Rattle.x86_words.proofs.Sweeps.{any_none}
+use Rattle.x86_words.proofs.Sweeps.{any_none, Changing, changing_all}
+use borrow.Rule.Slice.PartMut.{put_mid}
 
 past_zero : (st : State) (k : ℕ) → length st.words ≡ 8192 → 8192 ≤ k → word_at st k ≡ 0
 past_zero st k n h = get_or_past st.words k 0 (omega arith)
@@ -34,6 +35,19 @@ module _ (st : State) (f : ℕ) where
   pub unmarked_here : (i w : ℕ) → 3072 ≤ i → w ≡ word_at st i → unmarked_word st f i ≡ cond (maps w f) (cleaned w) (word_at st i)
   unmarked_here i w h e = ap (λ b. cond b (cleaned (word_at st i)) (word_at st i)) (mapping_here i w h e) ∙ ap (λ v. cond (maps w f) (cleaned v) (word_at st i)) (sym e)
 
+  -- the leaves, each of their words changed and put back
+  pub unmarked_all : (ws part : List ℕ) (i : ℕ) → ws ≡ st.words → length ws ≡ 8192 → length part ≡ length ws - 3072 → length ws - 3072 ≤ i
+      → Changing (take (length ws - 3072) (drop 3072 ws)) part (λ w. cond (maps w f) (cleaned w) w) i
+      → put_mid 3072 (length ws - 3072) ws part ≡ map (unmarked_word st f) (range_with_len 0 8192)
+  unmarked_all ws part i e size whole passed c =
+      changing_all ws part 3072 (length ws - 3072) (λ w. cond (maps w f) (cleaned w) w) (unmarked_word st f) size (omega arith) whole i passed c
+      (λ k lt. unmarked_low k lt ∙ sym (same k))
+      (λ k le lt. unmarked_here k (get_or ws k 0) le (same k) ∙ ap (cond (maps (get_or ws k 0) f) (cleaned (get_or ws k 0))) (sym (same k)))
+      (λ k le lt. absurd (omega arith))
+    where
+      same : (k : ℕ) → get_or ws k 0 ≡ word_at st k
+      same k = ap (λ l. get_or l k 0) e
+
 -- the words of a leaf
 pub in_leaf_low : (t k : ℕ) → k < 512 * t → in_leaf t k ≡ false
 in_leaf_low t k h = ne_eqb (k / 512) t (omega arith)
@@ -54,6 +68,19 @@ module _ (st : State) (t : ℕ) where
 
   pub unlinked_past : (k : ℕ) → 3072 ≤ k → unlinked_word st t k ≡ word_at st k
   unlinked_past k h = cond-false _ 0 (word_at st k) (and_left (is_directory k) _ (ap (λ b. b && ltb k 3072) (le-leb 1024 k (omega arith)) ∙ le-ltb k 3072 h))
+
+  -- the directories, each of their words changed and put back
+  pub unlinked_all : (ws part : List ℕ) (i : ℕ) → ws ≡ st.words → length ws ≡ 8192 → length part ≡ 2048 → 2048 ≤ i
+      → Changing (take 2048 (drop 1024 ws)) part (λ w. cond (points_to w t) 0 w) i
+      → put_mid 1024 2048 ws part ≡ map (unlinked_word st t) (range_with_len 0 8192)
+  unlinked_all ws part i e size whole passed c =
+      changing_all ws part 1024 2048 (λ w. cond (points_to w t) 0 w) (unlinked_word st t) size (omega arith) whole i passed c
+      (λ k lt. unlinked_low k lt ∙ sym (same k))
+      (λ k le lt. unlinked_here k (get_or ws k 0) le (omega arith) (same k) ∙ ap (cond (points_to (get_or ws k 0) t) 0) (sym (same k)))
+      (λ k le lt. unlinked_past k (omega arith) ∙ sym (same k))
+    where
+      same : (k : ℕ) → get_or ws k 0 ≡ word_at st k
+      same k = ap (λ l. get_or l k 0) e
 
 -- a search among the n words from a position on, as the code makes it; the words past the end are zero
 module _ (test : ℕ → Bool) (zero_fails : test 0 ≡ false) (words : List ℕ) (from : ℕ) (found : ℕ → Bool)

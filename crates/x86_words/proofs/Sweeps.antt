@@ -1,14 +1,16 @@
 -- Loops over the words: each comes to its end at the state that a definition gives by position.
-use Rattle.std.proofs.Common.{◌≡◌, ℕ, ◌+◌, ◌<◌, ◌≤◌, Bool, true, false, cond, ◌&&◌, ◌||◌, eqb, ltb, List, map, length, get_or, Decides, sym, refl, ap, ◌∙◌, ⊎_elim, arith}
+use Rattle.std.proofs.Common.{◌≡◌, ℕ, ◌+◌, ◌-◌, ◌++◌, take, drop, ◌<◌, ◌≤◌, Bool, true, false, cond, ◌&&◌, ◌||◌, eqb, ltb, List, map, length, get_or, set, Decides, sym, refl, ap, ◌∙◌, ⊎_elim, arith}
 use Rattle.std.specs.List.{range_with_len}
 use Rattle.std.proofs.lemmas.Bool.{cases_eq, cases_lt, cond-true, cond-false, lt-ltb, le-ltb, ltb-true, and_parts, and_from, and_left, and_right, both_ways, false_from_ne_true, eq-eqb, ne_eqb, or_cases, or_left, or_right}
 use Rattle.std.proofs.lemmas.Bool.Decides.{same_from_decides, Decides-below_or}
 use Rattle.std.proofs.lemmas.List.FromFn.{fill_by_all, get_or-map-range_with_len, length-map-range_with_len}
 use Rattle.std.proofs.lemmas.List.{get_or-set_other, get_or_past}
 use Rattle.std.proofs.lemmas.Grind.{get_or-set_at}
+use borrow.Rule.Slice.PartMut.{put_mid}
+use Rattle.std.proofs.lemmas.List.{get_or_append_left, get_or-append_right, get_or-take, get_or-drop, length-take-le, length-append, length-drop}
 use Rattle.std.proofs.Math.Bool.{or_assoc, or-false, and-true}
 use Rattle.x86_words.specs.Words.{frame_of, dirty, dirty_in}
-use Rattle.x86_words.specs.State.{State, word_at, written, forgotten, any_dirty, emptied, marks_off, wiped, started}
+use Rattle.x86_words.specs.State.{State, word_at, forgotten, any_dirty, emptied, marks_off, wiped, started}
 
 pub same_state : {a b : List ℕ} {c d : List Bool} {x y : ℕ} → a ≡ b → c ≡ d → x ≡ y → ◌≡◌ {A = State} (record { words = a; marks = c; next = x }) (record { words = b; marks = d; next = y })
 same_state p q r = cc
@@ -17,45 +19,49 @@ pub frame_low_is : (w : ℕ) → frame_of w < 256
 unfolding frame_of
 frame_low_is w = omega arith
 
--- u is st with each word below i as `after` says
-pub record Rewriting (st u : State) (after : ℕ → ℕ) (i : ℕ) : Type 0 where
-  pub done : (k : ℕ) → k < i → word_at u k ≡ after k
-  pub rest : (k : ℕ) → i ≤ k → word_at u k ≡ word_at st k
-  pub marks : u.marks ≡ st.marks
-  pub next : u.next ≡ st.next
+-- a part of the words as a loop has it that has changed those before its i-th
+pub record Changing (before part : List ℕ) (change : ℕ → ℕ) (i : ℕ) : Type 0 where
+  pub done : (k : ℕ) → k < i → get_or part k 0 ≡ change (get_or before k 0)
+  pub rest : (k : ℕ) → i ≤ k → get_or part k 0 ≡ get_or before k 0
 
-module _ (st : State) (after : ℕ → ℕ) where
-  pub rewriting_none : (i : ℕ) → ((k : ℕ) → k < i → after k ≡ word_at st k) → Rewriting st st after i
-  rewriting_none i same = record { done = λ k h. sym (same k h); rest = λ k h. refl; marks = refl; next = refl }
+module _ (before : List ℕ) (change : ℕ → ℕ) where
+  pub changing_none : Changing before before change 0
+  changing_none = record { done = λ k h. absurd (omega arith); rest = λ k h. refl }
 
-  module _ (u : State) (i : ℕ) (r : Rewriting st u after i) where
-    pub rewriting_hit : (w : ℕ) → i < length u.words → w ≡ after i → Rewriting st (written u i w) after (i + 1)
-    rewriting_hit w h e = record {
-      done = λ k lt. ⊎_elim
-          (λ (q : k ≡ i). get_or-set_at u.words i k w 0 q h ∙ e ∙ ap after (sym q))
-          (λ (q : k ≡ i → ⊥). get_or-set_other u.words i k w 0 q ∙ r.done k (omega arith))
-          (cases_eq k i);
-      rest = λ k le. get_or-set_other u.words i k w 0 (omega arith) ∙ r.rest k (omega arith);
-      marks = r.marks;
-      next = r.next;
-    }
+  pub changing_more : (part now : List ℕ) (i v : ℕ) → Changing before part change i → i < length part → v ≡ change (get_or part i 0) → now ≡ set part i v → Changing before now change (i + 1)
+  changing_more part now i v c h e to = rw (to, e) (record {
+    done = λ k lt. ⊎_elim
+        (λ (q : k ≡ i). get_or-set_at part i k _ 0 q h ∙ ap change (c.rest i (omega arith) ∙ ap (λ j. get_or before j 0) (sym q)))
+        (λ (q : k ≡ i → ⊥). get_or-set_other part i k _ 0 q ∙ c.done k (omega arith))
+        (cases_eq k i);
+    rest = λ k le. get_or-set_other part i k _ 0 (omega arith) ∙ c.rest k (omega arith);
+  })
 
-    pub rewriting_miss : after i ≡ word_at st i → Rewriting st u after (i + 1)
-    rewriting_miss e = record {
-      done = λ k lt. ⊎_elim
-          (λ (q : k ≡ i). ap (word_at u) q ∙ r.rest i (omega arith) ∙ sym e ∙ ap after (sym q))
-          (λ (q : k ≡ i → ⊥). r.done k (omega arith))
-          (cases_eq k i);
-      rest = λ k le. r.rest k (omega arith);
-      marks = r.marks;
-      next = r.next;
-    }
+-- the n words from a on, all of them changed and put back
+module _ (words part : List ℕ) (a n : ℕ) (change after : ℕ → ℕ) (size : length words ≡ 8192) (inside : a + n ≤ 8192) (whole : length part ≡ n) where
+  pub changing_all : (i : ℕ) → n ≤ i → Changing (take n (drop a words)) part change i
+      → ((k : ℕ) → k < a → after k ≡ get_or words k 0)
+      → ((k : ℕ) → a ≤ k → k < a + n → after k ≡ change (get_or words k 0))
+      → ((k : ℕ) → a + n ≤ k → k < 8192 → after k ≡ get_or words k 0)
+      → put_mid a n words part ≡ map after (range_with_len 0 8192)
+  changing_all i passed c low here high = fill_by_all after (put_mid a n words part) 8192 0 sized (λ k h. ⊎_elim
+      (λ (lt : k < a). get_or_append_left (take a words) (part ++ post) 0 k (omega (arith, front)) ∙ get_or-take a words k 0 lt ∙ sym (low k lt))
+      (λ (le : a ≤ k). get_or-append_right (take a words) (part ++ post) a k 0 front le ∙ ⊎_elim
+      (λ (lt : k < a + n). get_or_append_left part post 0 (k - a) (omega arith) ∙ c.done (k - a) (omega arith)
+      ∙ ap change (get_or-take n (drop a words) (k - a) 0 (omega arith) ∙ get_or-drop a words (k - a) 0 ∙ ap (λ j. get_or words j 0) (omega arith)) ∙ sym (here k le lt))
+      (λ (past : a + n ≤ k). get_or-append_right part post n (k - a) 0 whole (omega arith) ∙ get_or-drop n (drop a words) (k - a - n) 0 ∙ get_or-drop a words (n + (k - a - n)) 0
+      ∙ ap (λ j. get_or words j 0) (omega arith) ∙ sym (high k past h))
+      (cases_lt k (a + n)))
+      (cases_lt k a))
+    where
+      post : List ℕ
+      post = drop n (drop a words)
 
-    pub rewriting_all : length u.words ≡ 8192 → ((k : ℕ) → i ≤ k → k < 8192 → after k ≡ word_at st k) → u.words ≡ map after (range_with_len 0 8192)
-    rewriting_all n same = fill_by_all after u.words 8192 0 n (λ k h. ⊎_elim
-        (λ (lt : k < i). r.done k lt)
-        (λ (le : i ≤ k). r.rest k le ∙ sym (same k le h))
-        (cases_lt k i))
+      front : length (take a words) ≡ a
+      front = length-take-le a words (omega arith)
+
+      sized : length (put_mid a n words part) ≡ 8192
+      sized = omega (arith, front, length-append (take a words) (part ++ post), length-append part post, length-drop n (drop a words), length-drop a words)
 
 -- `any_dirty` in words: some position below n
 pub any_dirty_is : (words : List ℕ) (chosen : ℕ → Bool) (f n : ℕ) → Decides (any_dirty words chosen f n) ((k : ℕ) × (k < n) × ((chosen k && dirty_in (get_or words k 0) f) ≡ true))
@@ -201,12 +207,6 @@ pub emptying_step : (st u v : State) (gone : ℕ → Bool) (i : ℕ) (b : Bool) 
     → i < 8192 → length u.words ≡ 8192 → length u.marks ≡ 256 → gone i ≡ b → v ≡ cond b (forgotten u i) u → Emptying st v (up_to (i + 1) gone)
 emptying_step st u v gone i true e h n m g q = rw q (emptying_hit st u gone i e h n m g)
 emptying_step st u v gone i false e h n m g q = rw q (emptying_miss st u gone i e g)
-
--- a turn of a loop that rewrites the word or leaves it, by a test
-pub rewriting_step : (st u v : State) (after : ℕ → ℕ) (i w : ℕ) (b : Bool) → Rewriting st u after i
-    → i < length u.words → after i ≡ cond b w (word_at st i) → v ≡ cond b (written u i w) u → Rewriting st v after (i + 1)
-rewriting_step st u v after i w true r h a q = rw q (rewriting_hit st after u i r w h (sym a))
-rewriting_step st u v after i w false r h a q = rw q (rewriting_miss st after u i r a)
 
 -- the words, the marks and the counter of a cleared board, written one after the other
 pub starts : (st u v : State) → u ≡ wiped st → v ≡ marks_off u → ◌≡◌ {A = State} (record { words = v.words; marks = v.marks; next = 6 }) started

@@ -1,8 +1,8 @@
 // What concerns a frame: all of its leaf words at once, and its mark.
 ghost use Rattle.std.specs.Prelude.{◌≡◌, ◌<◌, if◌then◌else◌, drop};
 ghost use Rattle.std.specs.List.{list_any};
-ghost use Rattle.x86_words.specs.Words.{maps as maps_to, dirty_in, cleaned};
-ghost use Rattle.x86_words.specs.State.{word_at, written, forgotten, dropped, modified_in, bits_off, mark_off, unmarked};
+ghost use Rattle.x86_words.specs.Words.{maps as maps_to, dirty_in};
+ghost use Rattle.x86_words.specs.State.{word_at, forgotten, dropped, modified_in, bits_off, mark_off, unmarked};
 ghost use Rattle.x86.specs.Reads.{state};
 
 use super::{Board, LEAVES, WORDS};
@@ -54,23 +54,15 @@ impl Board {
         self.marks[wanted.index()] || self.holds_dirty(wanted)
     }
 
-    // Puts the dirty bit of the word at a position off if it maps the frame.
-    fn clean_at(&mut self, at: usize, wanted: Frame)
-        requires { at < 8192 }
-        ensures { state self.new ≡ (if maps_to (word_at (state self.old) at) wanted.number then written (state self.old) at (cleaned (word_at (state self.old) at)) else state self.old) }
-    {
-        let word = self.word(at);
-        if maps(word, wanted.number) {
-            self.put_word(at, without(word, Bit::Dirty));
-        }
-    }
-
     // Puts the dirty bit of every word that maps the frame off.
     fn clean_all(&mut self, wanted: Frame)
         ensures { state self.new ≡ bits_off (state self.old) wanted.number }
     {
-        for at in LEAVES..WORDS {
-            self.clean_at(at, wanted);
+        let leaves = &mut self.words[LEAVES..];
+        for word in leaves.iter_mut() {
+            if maps(*word, wanted.number) {
+                *word = without(*word, Bit::Dirty);
+            }
         }
     }
 

@@ -1,7 +1,6 @@
 // Taking a leaf.
-ghost use Rattle.std.specs.Prelude.{◌≡◌, ◌<◌, if◌then◌else◌};
-ghost use Rattle.x86_words.specs.Words.{points_to};
-ghost use Rattle.x86_words.specs.State.{word_at, written, emptied, unlinked, linked, taken, free_leaf, in_leaf};
+ghost use Rattle.std.specs.Prelude.{◌≡◌, ◌<◌};
+ghost use Rattle.x86_words.specs.State.{emptied, unlinked, linked, taken, free_leaf, in_leaf};
 ghost use Rattle.x86.specs.Reads.{state};
 
 use super::{Board, DIRECTORIES, FIRST_DIRECTORY, LEAVES};
@@ -27,22 +26,15 @@ impl Board {
         }
     }
 
-    // Empties the word at a position if it points to the leaf.
-    fn unlink_at(&mut self, at: usize, leaf: Leaf)
-        requires { at < 8192 }
-        ensures { state self.new ≡ (if points_to (word_at (state self.old) at) leaf.number then written (state self.old) at 0 else state self.old) }
-    {
-        if points_to(self.word(at), leaf.number) {
-            self.put_word(at, 0);
-        }
-    }
-
     // Empties the directory word that points to a leaf.
     fn unlink(&mut self, leaf: Leaf)
         ensures { state self.new ≡ unlinked (state self.old) leaf.number }
     {
-        for at in DIRECTORIES..LEAVES {
-            self.unlink_at(at, leaf);
+        let directories = &mut self.words[DIRECTORIES..LEAVES];
+        for word in directories.iter_mut() {
+            if points_to(*word, leaf.number) {
+                *word = 0;
+            }
         }
     }
 

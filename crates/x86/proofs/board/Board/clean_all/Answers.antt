@@ -1,29 +1,32 @@
-use Rattle.std.proofs.Common.{arith}
+use Rattle.std.proofs.Common.{ℕ, get_or, cond, sym, refl, ◌∙◌, arith}
+use Rattle.std.proofs.lemmas.Bool.{cond-true, cond-false}
+use Rattle.std.proofs.lemmas.List.{with_items_is}
 use Rattle.x86_words.specs.Words.{maps, cleaned}
-use Rattle.x86_words.specs.State.{word_at, unmarked_word, bits_off}
+use Rattle.x86_words.specs.State.{bits_off}
 use Rattle.x86.specs.Reads.{state}
-use Rattle.x86_words.proofs.Sweeps.{rewriting_none, rewriting_step, rewriting_all, same_state}
-use Rattle.x86_words.proofs.Sets.{unmarked_low, unmarked_here}
+use Rattle.x86_words.proofs.Sweeps.{changing_none, changing_more, same_state}
+use Rattle.x86_words.proofs.Sets.{unmarked_all}
 use Rattle.x86.proofs.board.Board.clean_all.Goals as goal
+use Rattle.x86.proofs.board.Board.clean_all.Goals.{then-maps, else-maps}
 
-pub loop-at-init : goal.loop-at-init
-loop-at-init c =
-    let st = state c.args.self.now in
-    rewriting_none st (unmarked_word st c.args.wanted.number) 3072 (unmarked_low st c.args.wanted.number)
+pub loop-word-init : goal.loop-word-init
+loop-word-init c = changing_none _ (λ w. cond (maps w c.args.wanted.number) (cleaned w) w)
 
-pub loop-at-preserved : goal.loop-at-preserved
-loop-at-preserved c =
-    let st = state c.args.self.now in
-    let u = state c.loop-at.self in
-    let i = c.loop-at.at in
+pub loop-word-preserved : goal.loop-word-preserved
+loop-word-preserved c =
     let f = c.args.wanted.number in
-    rewriting_step st u (state c.clean_at.new.self) (unmarked_word st f) i (cleaned (word_at u i)) (maps (word_at u i) f) c.loop-at.invariant (omega arith)
-    (unmarked_here st f i (word_at u i) (omega arith) (c.loop-at.invariant.rest i (omega arith))) c.clean_at.ensures
+    let part = c.loop-word.leaves in
+    let i = c.loop-word.word-index in
+    let x : ℕ = get_or part i 0 in
+    let change = λ (w : ℕ). cond (maps w f) (cleaned w) w in
+    elim c.if-maps.branch [
+      | then-maps w ↦ changing_more _ change part c.if-maps.leaves i w.without.result c.loop-word.invariant (omega arith) (w.without.ensures ∙ sym (cond-true (maps x f) (cleaned x) x (sym c.maps.ensures ∙ w.if-maps.true))) w.leaves-is
+      | else-maps w ↦ changing_more _ change part c.if-maps.leaves i x c.loop-word.invariant (omega arith) (sym (cond-false (maps x f) (cleaned x) x (sym c.maps.ensures ∙ w.if-maps.false))) w.leaves-is
+    ]
 
 pub returns : goal.returns
 unfolding bits_off
-returns c =
-    let st = state c.args.self.now in
-    let f = c.args.wanted.number in
-    same_state (rewriting_all st (unmarked_word st f) (state c.loop-at.self) c.loop-at.at c.loop-at.invariant (omega arith) (λ k h l. absurd (omega arith)))
-    c.loop-at.invariant.marks c.loop-at.invariant.next
+returns c = same_state
+    (with_items_is c.args.self.now.words _ (omega arith)
+    ∙ unmarked_all (state c.args.self.now) c.args.wanted.number c.deref_mut.result.now c.loop-word.leaves c.loop-word.word-index c.deref_mut.ensures.value (omega arith) (omega arith) (omega arith) c.loop-word.invariant)
+    refl refl

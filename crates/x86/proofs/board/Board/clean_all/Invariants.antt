@@ -1,7 +1,7 @@
-use Rattle.x86_words.specs.State.{unmarked_word}
-use Rattle.x86.specs.Reads.{state}
-use Rattle.x86_words.proofs.Sweeps.{Rewriting}
+use Rattle.std.proofs.Common.{cond}
+use Rattle.x86_words.specs.Words.{maps, cleaned}
+use Rattle.x86_words.proofs.Sweeps.{Changing}
 use Rattle.x86.proofs.board.Board.clean_all.Given as goal
 
-abbrev pub invariant-loop-at : goal.invariant-loop-at
-invariant-loop-at l = Rewriting (state l.initial.self) (state l.self) (unmarked_word (state l.initial.self) l.wanted.number) l.at
+abbrev pub invariant-loop-word : goal.invariant-loop-word
+invariant-loop-word l = Changing l.initial.leaves l.leaves (λ w. cond (maps w l.wanted.number) (cleaned w) w) l.word-index

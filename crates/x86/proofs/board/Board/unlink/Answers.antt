@@ -1,29 +1,32 @@
-use Rattle.std.proofs.Common.{arith}
+use Rattle.std.proofs.Common.{ℕ, get_or, cond, sym, refl, ◌∙◌, arith}
+use Rattle.std.proofs.lemmas.Bool.{cond-true, cond-false}
+use Rattle.std.proofs.lemmas.List.{with_items_is}
 use Rattle.x86_words.specs.Words.{points_to}
-use Rattle.x86_words.specs.State.{word_at, unlinked_word, unlinked}
+use Rattle.x86_words.specs.State.{unlinked}
 use Rattle.x86.specs.Reads.{state}
-use Rattle.x86_words.proofs.Sweeps.{rewriting_none, rewriting_step, rewriting_all, same_state}
-use Rattle.x86_words.proofs.Sets.{unlinked_low, unlinked_here, unlinked_past}
+use Rattle.x86_words.proofs.Sweeps.{changing_none, changing_more, same_state}
+use Rattle.x86_words.proofs.Sets.{unlinked_all}
 use Rattle.x86.proofs.board.Board.unlink.Goals as goal
+use Rattle.x86.proofs.board.Board.unlink.Goals.{then-points_to, else-points_to}
 
-pub loop-at-init : goal.loop-at-init
-loop-at-init c =
-    let st = state c.args.self.now in
-    rewriting_none st (unlinked_word st c.args.leaf.number) 1024 (unlinked_low st c.args.leaf.number)
+pub loop-word-init : goal.loop-word-init
+loop-word-init c = changing_none _ (λ w. cond (points_to w c.args.leaf.number) 0 w)
 
-pub loop-at-preserved : goal.loop-at-preserved
-loop-at-preserved c =
-    let st = state c.args.self.now in
-    let u = state c.loop-at.self in
-    let i = c.loop-at.at in
+pub loop-word-preserved : goal.loop-word-preserved
+loop-word-preserved c =
     let t = c.args.leaf.number in
-    rewriting_step st u (state c.unlink_at.new.self) (unlinked_word st t) i 0 (points_to (word_at u i) t) c.loop-at.invariant (omega arith)
-    (unlinked_here st t i (word_at u i) (omega arith) (omega arith) (c.loop-at.invariant.rest i (omega arith))) c.unlink_at.ensures
+    let part = c.loop-word.directories in
+    let i = c.loop-word.word-index in
+    let x : ℕ = get_or part i 0 in
+    let change = λ (w : ℕ). cond (points_to w t) 0 w in
+    elim c.if-points_to.branch [
+      | then-points_to w ↦ changing_more _ change part c.if-points_to.directories i 0 c.loop-word.invariant (omega arith) (sym (cond-true (points_to x t) 0 x (sym c.points_to.ensures ∙ w.if-points_to.true))) w.directories-is
+      | else-points_to w ↦ changing_more _ change part c.if-points_to.directories i x c.loop-word.invariant (omega arith) (sym (cond-false (points_to x t) 0 x (sym c.points_to.ensures ∙ w.if-points_to.false))) w.directories-is
+    ]
 
 pub returns : goal.returns
 unfolding unlinked
-returns c =
-    let st = state c.args.self.now in
-    let t = c.args.leaf.number in
-    same_state (rewriting_all st (unlinked_word st t) (state c.loop-at.self) c.loop-at.at c.loop-at.invariant (omega arith) (λ k h l. unlinked_past st t k (omega arith)))
-    c.loop-at.invariant.marks c.loop-at.invariant.next
+returns c = same_state
+    (with_items_is c.args.self.now.words _ (omega arith)
+    ∙ unlinked_all (state c.args.self.now) c.args.leaf.number c.deref_mut.result.now c.loop-word.directories c.loop-word.word-index c.deref_mut.ensures.value (omega arith) (omega arith) (omega arith) c.loop-word.invariant)
+    refl refl

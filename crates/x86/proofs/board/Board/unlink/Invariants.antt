@@ -1,7 +1,7 @@
-use Rattle.x86_words.specs.State.{unlinked_word}
-use Rattle.x86.specs.Reads.{state}
-use Rattle.x86_words.proofs.Sweeps.{Rewriting}
+use Rattle.std.proofs.Common.{cond}
+use Rattle.x86_words.specs.Words.{points_to}
+use Rattle.x86_words.proofs.Sweeps.{Changing}
 use Rattle.x86.proofs.board.Board.unlink.Given as goal
 
-abbrev pub invariant-loop-at : goal.invariant-loop-at
-invariant-loop-at l = Rewriting (state l.initial.self) (state l.self) (unlinked_word (state l.initial.self) l.leaf.number) l.at
+abbrev pub invariant-loop-word : goal.invariant-loop-word
+invariant-loop-word l = Changing l.initial.directories l.directories (λ w. cond (points_to w l.leaf.number) 0 w) l.word-index
