@@ -1,5 +1,5 @@
 // The timing of each kind of call, on any pmap.
-ghost use Rattle.std.specs.Prelude.{◌≡◌, ◌*◌, ◌/◌, ◌<◌};
+ghost use Rattle.std.specs.Prelude.{◌≡◌, ℕ, ◌*◌, ◌/◌, ◌<◌};
 
 use anyhow::anyhow;
 use pmap::access::Access;
@@ -20,44 +20,21 @@ fn rate(calls: u32, nanos: u128) -> u128
     u128::from(calls) * 1_000_000_000 / nanos
 }
 
-// Reads and writes in turn, all of them hits.
-fn access_rate<P: Pmap>(rt: &HostRuntime, pmap: &mut P, calls: u32) -> anyhow::Result<u128>
-    requires { P.kept pmap.old }
+// The calls in a second, where each call is a step on the pmap, with its number.
+fn rate_of<P: Pmap, F: Fn(&mut P, u32) -> anyhow::Result<()>>(
+    rt: &HostRuntime,
+    pmap: &mut P,
+    calls: u32,
+    step: F,
+) -> anyhow::Result<u128>
+    requires kept { P.kept pmap.old }
+    requires callable { (p : _) (call : ℕ) → P.kept p.now → F.pre step p call }
+    requires keeps { (p : _) (call : ℕ) (r : _) (q : _) → P.kept p.now → F.post step p call r q → P.kept q.now }
     ensures { P.kept pmap.new }
 {
     let start = Instant::now(rt)?;
     for call in 0..calls {
-        let Ok(Access::Hit(_)) = pmap.access(0, call % ROUND, call % 2 == 0) else {
-            return Err(anyhow!("an access missed"));
-        };
-    }
-    Ok(rate(calls, start.elapsed(rt)?.as_nanos()))
-}
-
-// Enters of one page after the other, each frame in turn.
-fn enter_rate<P: Pmap>(rt: &HostRuntime, pmap: &mut P, calls: u32) -> anyhow::Result<u128>
-    requires { P.kept pmap.old }
-    ensures { P.kept pmap.new }
-{
-    let start = Instant::now(rt)?;
-    for call in 0..calls {
-        let Ok(()) = pmap.enter(0, call % PAGES, (call % 256) as u16, 3, false) else {
-            return Err(anyhow!("an enter was refused"));
-        };
-    }
-    Ok(rate(calls, start.elapsed(rt)?.as_nanos()))
-}
-
-// Drops of each frame in turn.
-fn drop_rate<P: Pmap>(rt: &HostRuntime, pmap: &mut P, calls: u32) -> anyhow::Result<u128>
-    requires { P.kept pmap.old }
-    ensures { P.kept pmap.new }
-{
-    let start = Instant::now(rt)?;
-    for call in 0..calls {
-        let Ok(()) = pmap.drop_frame((call % 256) as u16) else {
-            return Err(anyhow!("a drop was refused"));
-        };
+        step(pmap, call)?;
     }
     Ok(rate(calls, start.elapsed(rt)?.as_nanos()))
 }
@@ -66,10 +43,26 @@ fn drop_rate<P: Pmap>(rt: &HostRuntime, pmap: &mut P, calls: u32) -> anyhow::Res
 pub fn show<P: Pmap>(rt: &HostRuntime, name: &str, pmap: &mut P, calls: u32) -> anyhow::Result<()>
     requires { P.kept pmap.old }
 {
-    enter_rate(rt, pmap, ROUND)?;
-    let access = access_rate(rt, pmap, calls)?;
-    let enter = enter_rate(rt, pmap, calls)?;
-    let drop = drop_rate(rt, pmap, calls)?;
+    // reads and writes in turn, all of them hits
+    let access = |pmap: &mut P, call: u32| match pmap.access(0, call % ROUND, call % 2 == 0) {
+        Ok(Access::Hit(_)) => Ok(()),
+        _ => Err(anyhow!("an access missed")),
+    };
+    // one page after the other, each frame in turn
+    let enter = |pmap: &mut P, call: u32| {
+        let frame = (call % 256) as u16;
+        pmap.enter(0, call % PAGES, frame, 3, false)
+            .map_err(|_| anyhow!("an enter was refused"))
+    };
+    // each frame in turn
+    let drop_frame = |pmap: &mut P, call: u32| {
+        pmap.drop_frame((call % 256) as u16)
+            .map_err(|_| anyhow!("a drop was refused"))
+    };
+    rate_of(rt, pmap, ROUND, enter)?;
+    let access = rate_of(rt, pmap, calls, access)?;
+    let enter = rate_of(rt, pmap, calls, enter)?;
+    let drop = rate_of(rt, pmap, calls, drop_frame)?;
     println!(rt; "{name}: calls a second: access {access}, enter {enter}, drop {drop}")?;
     Ok(())
 }

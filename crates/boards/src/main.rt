@@ -18,15 +18,13 @@ mod stop;
 // The request on the first line of standard input; what is no text is refused as bad numbers are.
 fn read_request(rt: &HostRuntime) -> Result<Request, PmapRefusal> {
     let mut line = String::new(rt.alloc());
-    if rt.read_line(&mut line).is_err() {
-        return Err(PmapRefusal::Range);
-    }
+    rt.read_line(&mut line).map_err(|_| PmapRefusal::Range)?;
     Request::parse(line.as_str())
 }
 
 fn show_end(rt: &HostRuntime, radix: Outcome, hashed: Outcome) -> io::Result<()> {
-    let forgotten = radix.forgotten as u8 + hashed.forgotten as u8;
-    let modified = radix.modified as u8 + hashed.modified as u8;
+    let forgotten = u8::from(radix.forgotten) + u8::from(hashed.forgotten);
+    let modified = u8::from(radix.modified) + u8::from(hashed.modified);
     println!(rt;
         "entered 1 place on 2 boards, crowded it out of {forgotten}, its frame is still modified on {modified}"
     )
@@ -34,10 +32,12 @@ fn show_end(rt: &HostRuntime, radix: Outcome, hashed: Outcome) -> io::Result<()>
 
 fn show(rt: &HostRuntime) -> Result<(), Stop> {
     let request = read_request(rt)?;
-    let space = request.space;
-    let page = request.page;
-    let frame = request.frame;
-    let protection = request.protection;
+    let Request {
+        space,
+        page,
+        frame,
+        protection,
+    } = request;
     println!(rt; "space {space}, page {page}, frame {frame}, protection {protection}")?;
     let radix = radix::show(rt, request)?;
     let hashed = hashed::show(rt, request)?;
@@ -47,10 +47,8 @@ fn show(rt: &HostRuntime) -> Result<(), Stop> {
 
 fn show_refusal(rt: &HostRuntime, refusal: PmapRefusal) -> io::Result<()> {
     let code = refusal.code();
-    let number = code.number;
-    let layer = code.layer;
     println!(rt;
-        "refused {number} {layer}: give space (0 to 3), page (0 to 262143), frame (0 to 255) and protection (1 or 3)"
+        "refused {code}: give space (0 to 3), page (0 to 262143), frame (0 to 255) and protection (1 or 3)"
     )
 }
 
