@@ -19,11 +19,9 @@ fn main(rt: HostRuntime) -> anyhow::Result<()> {
         }
         Err(ParseError::Memory) => return Err(anyhow!("no memory")),
     };
-    match trace_bytes(heap, script.frames, &script.calls) {
-        Ok(bytes) => {
-            rt.stdout().write_all(&bytes)?;
-            Ok(())
-        }
-        Err(_) => Err(anyhow!("no trace can be made of the text")),
-    }
+    let bytes = trace_bytes(heap, script.frames, &script.calls).map_err(|_| anyhow!(
+        "no trace can be made of the text"
+    ))?;
+    rt.stdout().write_all(&bytes)?;
+    Ok(())
 }

@@ -5,7 +5,7 @@ ghost use Rattle.std.specs.List.{between};
 ghost use Rattle.pieces.specs.Cuts.{cuts, pieces, pieces_at, words_at, begun};
 
 // Where a text is cut: at newlines into lines, or at blanks into words.
-#[derive(Clone, Copy)]
+#[derive(Clone, Copy, PartialEq, Eq, Debug)]
 pub enum Cut {
     Lines,
     Words,

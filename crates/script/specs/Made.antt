@@ -1,5 +1,6 @@
 -- What is made of a frame count and calls: their text, and the bytes of their trace. Assumes nothing of the calls.
 use Rattle.std.specs.Prelude.{◌≡◌, ℕ, cond, List, [], ◌∷◌, ◌++◌, length, Some, None, Ok, Err, codes, decimal, Result, nat_lt}
+use Rattle.std.specs.List.{flat_map}
 use Rattle.refusal.specs.declared.file.FileRefusal.{FileRefusal}
 use Rattle.refusal.specs.declared.file.FileRefusal.TheVariants.{Size}
 use Rattle.calls.specs.declared.Call.{Call}
@@ -9,9 +10,8 @@ use Rattle.script.specs.declared.bytes.Unmade.{Unmade}
 use Rattle.script.specs.declared.bytes.Unmade.TheVariants.{File, Misfit, Memory}
 
 -- a line for each call
-unfoldable pub call_lines : List Call → List ℕ
-call_lines [] = []
-call_lines (call ∷ calls) = (call_words call ++ codes "\n") ++ call_lines calls
+abbrev pub call_lines : List Call → List ℕ
+call_lines calls = flat_map (λ call. call_words call ++ codes "\n") calls
 
 abbrev pub script_text : ℕ → List Call → List ℕ
 script_text frames calls = (codes "frames " ++ (decimal frames ++ codes "\n")) ++ call_lines calls

@@ -9,10 +9,10 @@ use std::alloc::{AllocError, Global};
 use trace::encode::{encode, encode_frames};
 
 // The most records of a trace.
-const MAX_RECORDS: usize = 5_461;
+pub(crate) const MAX_RECORDS: usize = 5_461;
 
 // Why there is no trace: a refusal of the whole file, a call with a field that does not fit its bits, or want of memory.
-#[derive(Clone, Copy)]
+#[derive(Clone, Copy, PartialEq, Eq, Debug)]
 pub enum Unmade {
     File(FileRefusal),
     Misfit(Call),
@@ -40,9 +40,7 @@ fn push_records(bytes: &mut Vec<u8>, calls: &[Call]) -> Result<(), Unmade>
     ensures { MatchResult result (λ _. bytes_from bytes.old.items calls.now ≡ Ok bytes.new.items) (Refuses (bytes_from bytes.old.items calls.now)) }
 {
     for call in calls {
-        let Some(spelled) = encode(*call) else {
-            return Err(Unmade::Misfit(*call));
-        };
+        let spelled = encode(*call).ok_or(Unmade::Misfit(*call))?;
         bytes.extend_from_slice(&spelled)?;
     }
     Ok(())

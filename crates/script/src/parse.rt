@@ -5,15 +5,13 @@ ghost use Rattle.pieces.specs.Cuts.{pieces_at};
 ghost use Rattle.script.specs.Whole.{spoken, faulted, record_at, records_in, script_of};
 ghost use Rattle.script.specs.declared.parse.ParseError.TheVariants.{Text, Memory};
 
+use crate::bytes::MAX_RECORDS;
 use calls::Call;
 use pieces::cut::{Cut, Pieces};
 use script_line::fault::{Fault, Reason};
 use script_line::field::Field;
 use script_line::line;
 use std::alloc::{AllocFailed, Global};
-
-// The most records of a trace.
-const MAX_RECORDS: usize = 5_461;
 
 // What a text says: a frame count and the calls of the records.
 #[derive(Drop)]
@@ -23,7 +21,7 @@ pub struct Script {
 }
 
 // Why a text is not read: what is wrong with it, or want of memory.
-#[derive(Clone, Copy)]
+#[derive(Clone, Copy, PartialEq, Eq, Debug)]
 pub enum ParseError {
     Text(Fault),
     Memory,
@@ -83,13 +81,10 @@ impl<'a> Rest<'a> {
 fn at<T>(number: usize, answer: Result<T, Reason>) -> Result<T, Fault>
     ensures { result ≡ faulted number answer }
 {
-    match answer {
-        Ok(value) => Ok(value),
-        Err(reason) => Err(Fault {
-            line: number,
-            reason,
-        }),
-    }
+    answer.map_err(|reason| Fault {
+        line: number,
+        reason,
+    })
 }
 
 // The call of a line, where the trace has so many records before it.
@@ -124,12 +119,10 @@ pub fn parse(heap: Global, text: &[u8]) -> Result<Script, ParseError>
         lines: Pieces::new(text),
         number: 1,
     };
-    let Some(first) = rest.next_line() else {
-        return Err(ParseError::Text(Fault {
-            line: 1,
-            reason: Reason::Missing(Field::Frames),
-        }));
-    };
+    let first = rest.next_line().ok_or(Fault {
+        line: 1,
+        reason: Reason::Missing(Field::Frames),
+    })?;
     let frames = at(first.number, line::frames(first.text))?;
     let calls = records(heap, &mut rest)?;
     Ok(Script { frames, calls })

@@ -4,13 +4,14 @@ ghost use Rattle.script.specs.Made.{call_lines, script_text};
 
 use calls::Call;
 use std::alloc::{AllocError, Global};
+use std::fmt::Write;
 
 // Puts a line for each call behind a text.
-fn push_calls(heap: Global, text: &mut String, calls: &[Call]) -> Result<(), AllocError>
+fn push_calls(text: &mut String, calls: &[Call]) -> Result<(), AllocError>
     ensures { OnOk result (string_bytes text.new ≡ string_bytes text.old ++ call_lines calls.now) }
 {
     for call in calls {
-        text.push_str(format!(in heap; "{call}\n")?.as_str())?;
+        writeln!(text, "{call}")?;
     }
     Ok(())
 }
@@ -20,6 +21,6 @@ pub fn script_text(heap: Global, frames: u16, calls: &[Call]) -> Result<String, 
     ensures { IfOk result (λ t. string_bytes t ≡ script_text frames calls.now) }
 {
     let mut text = format!(in heap; "frames {frames}\n")?;
-    push_calls(heap, &mut text, calls)?;
+    push_calls(&mut text, calls)?;
     Ok(text)
 }

@@ -1,9 +1,10 @@
 -- The form of a line, by its words. Assumes nothing of the bytes.
-use Rattle.std.specs.Prelude.{ℕ, Bool, true, false, cond, List, [], ◌∷◌, Some, None, Ok, Err, codes, Option, Result, ◌==◌, slice_index}
+use Rattle.std.specs.Prelude.{ℕ, Bool, true, false, cond, List, [], ◌∷◌, Some, None, Ok, Err, Option, Result, ◌==◌, slice_index}
 use Rattle.std.specs.Char.{is_ascii_digit}
 use Rattle.std.specs.Str.{bytes_eq}
 use Rattle.calls.specs.declared.Call.{Call}
-use Rattle.calls.specs.declared.Call.TheVariants.{Map, Unmap, Protect, Read, Write, Wire, Unwire, Sync}
+use Rattle.calls.specs.declared.operation.Values.{Values}
+use Rattle.calls.specs.Operations.{operation_named, no_values, call_of}
 use Rattle.pieces.specs.declared.numeral.Misread.{Misread}
 use Rattle.pieces.specs.declared.numeral.Misread.TheVariants.{NoNumber as NotDigits, TooLarge as AboveGreatest}
 use Rattle.pieces.specs.Numerals.{number_in}
@@ -11,21 +12,9 @@ use Rattle.script_line.specs.declared.field.Field.{Field}
 use Rattle.script_line.specs.declared.field.Field.TheVariants.{Frames, Space, Page, Count, Object, Offset, Protection, Word}
 use Rattle.script_line.specs.declared.fault.Reason.{Reason}
 use Rattle.script_line.specs.declared.fault.Reason.TheVariants.{Missing, Expected, NoNumber, TooLarge, NoFrames, UnknownOperation, RecordNumber, ExtraWord}
-use Rattle.script_line.specs.declared.operation.Operation.{Operation}
-use Rattle.script_line.specs.declared.operation.Operation.TheVariants.{Map as MapO, Unmap as UnmapO, Protect as ProtectO, Read as ReadO, Write as WriteO, Wire as WireO, Unwire as UnwireO, Sync as SyncO}
-use Rattle.script_line.specs.declared.operation.Values.{Values}
+use Rattle.calls.specs.declared.operation.Operation.{Operation}
+use Rattle.calls.specs.declared.operation.Operation.TheVariants.{Map as MapO, Unmap as UnmapO, Protect as ProtectO, Read as ReadO, Write as WriteO, Wire as WireO, Unwire as UnwireO, Sync as SyncO}
 use Rattle.script_line.specs.Names.{field_name, greatest}
-
-abbrev pub operation_of : List ℕ → Option Operation
-operation_of w =
-    cond (bytes_eq w (codes "map")) (Some MapO)
-    (cond (bytes_eq w (codes "unmap")) (Some UnmapO)
-    (cond (bytes_eq w (codes "protect")) (Some ProtectO)
-    (cond (bytes_eq w (codes "read")) (Some ReadO)
-    (cond (bytes_eq w (codes "write")) (Some WriteO)
-    (cond (bytes_eq w (codes "wire")) (Some WireO)
-    (cond (bytes_eq w (codes "unwire")) (Some UnwireO)
-    (cond (bytes_eq w (codes "sync")) (Some SyncO) None)))))))
 
 -- the fields that an operation uses, in the order in which they stand
 abbrev pub fields_for : Operation → List Field
@@ -38,29 +27,16 @@ fields_for WireO = Space ∷ Page ∷ []
 fields_for UnwireO = Space ∷ Page ∷ []
 fields_for SyncO = Object ∷ []
 
-abbrev pub no_values : Values
-no_values = record { space = 0; page = 0; count = 0; object = 0; offset = 0; protection = 0; word = 0 }
-
 -- the values with that of one field put; a frame count is none of them
 abbrev pub put_in : Values → Field → ℕ → Values
 put_in v Frames n = v
-put_in v Space n = record { space = n; page = v.page; count = v.count; object = v.object; offset = v.offset; protection = v.protection; word = v.word }
-put_in v Page n = record { space = v.space; page = n; count = v.count; object = v.object; offset = v.offset; protection = v.protection; word = v.word }
-put_in v Count n = record { space = v.space; page = v.page; count = n; object = v.object; offset = v.offset; protection = v.protection; word = v.word }
-put_in v Object n = record { space = v.space; page = v.page; count = v.count; object = n; offset = v.offset; protection = v.protection; word = v.word }
-put_in v Offset n = record { space = v.space; page = v.page; count = v.count; object = v.object; offset = n; protection = v.protection; word = v.word }
-put_in v Protection n = record { space = v.space; page = v.page; count = v.count; object = v.object; offset = v.offset; protection = n; word = v.word }
-put_in v Word n = record { space = v.space; page = v.page; count = v.count; object = v.object; offset = v.offset; protection = v.protection; word = n }
-
-abbrev pub call_of : Operation → Values → Call
-call_of MapO v = Map v.space v.page v.count v.object v.offset v.protection
-call_of UnmapO v = Unmap v.space v.page
-call_of ProtectO v = Protect v.space v.page v.protection
-call_of ReadO v = Read v.space v.page
-call_of WriteO v = Write v.space v.page v.word
-call_of WireO v = Wire v.space v.page
-call_of UnwireO v = Unwire v.space v.page
-call_of SyncO v = Sync v.object
+put_in v Space n = record v { space = n }
+put_in v Page n = record v { page = n }
+put_in v Count n = record v { count = n }
+put_in v Object n = record v { object = n }
+put_in v Offset n = record v { offset = n }
+put_in v Protection n = record v { protection = n }
+put_in v Word n = record v { word = n }
 
 -- the value that a word gives a field: a decimal number that is not above the greatest
 abbrev pub value_by : Field → Result ℕ Misread → Result ℕ Reason
@@ -101,7 +77,7 @@ call_by (Some o) ws = called_by o (filled (fields_for o) no_values ws)
 
 abbrev pub call_in : List (List ℕ) → Result Call Reason
 call_in [] = Err UnknownOperation
-call_in (w ∷ ws) = call_by (operation_of w) ws
+call_in (w ∷ ws) = call_by (operation_named w) ws
 
 -- a record's line: its call; a number before it has to be the record's own
 abbrev pub numbered : ℕ → Result ℕ Misread → Bool
@@ -111,7 +87,7 @@ numbered k (Err e) = false
 abbrev pub record_in : ℕ → List (List ℕ) → Result Call Reason
 record_in k [] = Err UnknownOperation
 record_in k (w ∷ ws) =
-    cond (is_ascii_digit (slice_index w 0)) (cond (numbered k (number_in 4294967295 w)) (call_in ws) (Err RecordNumber)) (call_by (operation_of w) ws)
+    cond (is_ascii_digit (slice_index w 0)) (cond (numbered k (number_in 4294967295 w)) (call_in ws) (Err RecordNumber)) (call_by (operation_named w) ws)
 
 -- the line of the frame count, which is not 0
 abbrev pub frames_by : Result (ℕ × List (List ℕ)) Reason → Result ℕ Reason

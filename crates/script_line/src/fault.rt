@@ -5,7 +5,7 @@ ghost use Rattle.script_line.specs.Messages.{reason_words, fault_words};
 use crate::field::Field;
 use std::fmt;
 
-#[derive(Clone, Copy)]
+#[derive(Clone, Copy, PartialEq, Eq, Debug)]
 pub enum Reason {
     // The line ends before a field.
     Missing(Field),
@@ -22,7 +22,7 @@ pub enum Reason {
     TooManyRecords,
 }
 
-#[derive(Clone, Copy)]
+#[derive(Clone, Copy, PartialEq, Eq, Debug)]
 pub struct Fault {
     pub line: usize,
     pub reason: Reason,
@@ -37,8 +37,7 @@ impl fmt::Display for Reason {
             Reason::Expected(field) => write!(f, "here the field {field} is due"),
             Reason::NoNumber(field) => write!(f, "the value of {field} is no number"),
             Reason::TooLarge(field) => {
-                let max = field.max();
-                write!(f, "the value of {field} is above {max}")
+                write!(f, "the value of {field} is above {}", field.max())
             }
             Reason::NoFrames => write!(f, "the value of frames is 0"),
             Reason::UnknownOperation => write!(f, "no such operation"),
@@ -53,8 +52,7 @@ impl fmt::Display for Fault {
     ghost output = { λ fault. Some (fault_words fault) };
 
     fn fmt<W: fmt::Write>(&self, f: &mut fmt::Formatter<W>) -> fmt::Result {
-        let line = self.line;
-        let reason = self.reason;
+        let Fault { line, reason } = *self;
         write!(f, "line {line}: {reason}")
     }
 }

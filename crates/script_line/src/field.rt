@@ -1,10 +1,12 @@
 // The fields of the text form: the frame count, and those that operations use.
-ghost use Rattle.std.specs.Prelude.{◌≡◌, Some};
+ghost use Rattle.std.specs.Prelude.{◌≡◌, ◌≤◌, Some};
 ghost use Rattle.script_line.specs.Names.{field_name, greatest};
+ghost use Rattle.script_line.specs.Form.{fields_for, put_in};
 
+use calls::operation::{Operation, Values};
 use std::fmt;
 
-#[derive(Clone, Copy)]
+#[derive(Clone, Copy, PartialEq, Eq, Debug)]
 pub enum Field {
     Frames,
     Space,
@@ -43,7 +45,46 @@ impl Field {
             Field::Count => 511,
             Field::Offset => 255,
             Field::Protection => 3,
-            Field::Word => 4_294_967_295,
+            Field::Word => u32::MAX,
+        }
+    }
+
+    // The fields that an operation uses, in their order.
+    pub fn used_by(operation: Operation) -> &'static [Field]
+        ensures { result.now ≡ fields_for operation }
+    {
+        match operation {
+            Operation::Map => &[
+                Field::Space,
+                Field::Page,
+                Field::Count,
+                Field::Object,
+                Field::Offset,
+                Field::Protection,
+            ],
+            Operation::Protect => &[Field::Space, Field::Page, Field::Protection],
+            Operation::Write => &[Field::Space, Field::Page, Field::Word],
+            Operation::Sync => &[Field::Object],
+            Operation::Unmap | Operation::Read | Operation::Wire | Operation::Unwire => {
+                &[Field::Space, Field::Page]
+            }
+        }
+    }
+
+    // Puts the value of the field among others; a frame count is kept elsewhere.
+    pub fn put(self, value: u32, values: &mut Values)
+        requires { value ≤ greatest self }
+        ensures { values.new ≡ put_in values.old self value }
+    {
+        match self {
+            Field::Frames => {}
+            Field::Space => values.space = value as u8,
+            Field::Page => values.page = value,
+            Field::Count => values.count = value as u16,
+            Field::Object => values.object = value as u8,
+            Field::Offset => values.offset = value as u8,
+            Field::Protection => values.protection = value as u8,
+            Field::Word => values.word = value,
         }
     }
 }
@@ -52,7 +93,6 @@ impl fmt::Display for Field {
     ghost output = { λ field. Some (field_name field) };
 
     fn fmt<W: fmt::Write>(&self, f: &mut fmt::Formatter<W>) -> fmt::Result {
-        let name = self.name();
-        write!(f, "{name}")
+        f.write_str(self.name())
     }
 }

@@ -6,4 +6,3 @@
 pub mod fault;
 pub mod field;
 pub mod line;
-mod operation;

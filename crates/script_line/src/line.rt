@@ -3,12 +3,13 @@ ghost use Rattle.std.specs.Prelude.{◌≡◌, ◌≤◌, ◌∷◌, IfOk, Ok, E
 ghost use Rattle.pieces.specs.Cuts.{words_at};
 ghost use Rattle.pieces.specs.Numerals.{number_in};
 ghost use Rattle.script_line.specs.Names.{greatest};
-ghost use Rattle.script_line.specs.Form.{value_of, field_in, filled, no_values, call_in, numbered, record_in, frames_in, silent};
+ghost use Rattle.calls.specs.Operations.{no_values};
+ghost use Rattle.script_line.specs.Form.{value_of, field_in, filled, call_in, numbered, record_in, frames_in, silent};
 
 use crate::fault::Reason;
 use crate::field::Field;
-use crate::operation::{Operation, Values, is};
 use calls::Call;
+use calls::operation::{Operation, Values};
 use pieces::cut::Pieces;
 use pieces::numeral::{Misread, number};
 
@@ -17,11 +18,10 @@ fn value(word: &[u8], field: Field) -> Result<u32, Reason>
     ensures value { result ≡ value_of field word.now }
     ensures bound { IfOk result (λ n. n ≤ greatest field) }
 {
-    match number(word, field.max()) {
-        Ok(value) => Ok(value),
-        Err(Misread::NoNumber) => Err(Reason::NoNumber(field)),
-        Err(Misread::TooLarge) => Err(Reason::TooLarge(field)),
-    }
+    number(word, field.max()).map_err(|misread| match misread {
+        Misread::NoNumber => Reason::NoNumber(field),
+        Misread::TooLarge => Reason::TooLarge(field),
+    })
 }
 
 // A field at the front of the words: its value.
@@ -30,15 +30,11 @@ fn field_value(words: &mut Pieces<'_>, field: Field) -> Result<u32, Reason>
     ensures bound { IfOk result (λ n. n ≤ greatest field) }
     ensures text { words.new.text.now ≡ words.old.text.now }
 {
-    let Some(name) = words.next_word() else {
-        return Err(Reason::Missing(field));
-    };
-    if !is(name, field.name()) {
+    let name = words.next_word().ok_or(Reason::Missing(field))?;
+    if name != field.name().as_bytes() {
         return Err(Reason::Expected(field));
     }
-    let Some(word) = words.next_word() else {
-        return Err(Reason::NoNumber(field));
-    };
+    let word = words.next_word().ok_or(Reason::NoNumber(field))?;
     value(word, field)
 }
 
@@ -46,10 +42,10 @@ fn field_value(words: &mut Pieces<'_>, field: Field) -> Result<u32, Reason>
 fn values(words: &mut Pieces<'_>, fields: &[Field]) -> Result<Values, Reason>
     ensures { result ≡ filled fields.now no_values (words_at words.old.text.now words.old.at) }
 {
-    let mut values = Values::new();
+    let mut values = Values::default();
     for field in fields {
         let value = field_value(words, *field)?;
-        values.put(*field, value);
+        field.put(value, &mut values);
     }
     match words.next_word() {
         Some(_) => Err(Reason::ExtraWord),
@@ -61,10 +57,8 @@ fn values(words: &mut Pieces<'_>, fields: &[Field]) -> Result<Values, Reason>
 fn call(word: &[u8], words: &mut Pieces<'_>) -> Result<Call, Reason>
     ensures { result ≡ call_in (word.now ∷ words_at words.old.text.now words.old.at) }
 {
-    let Some(operation) = Operation::of_word(word) else {
-        return Err(Reason::UnknownOperation);
-    };
-    let values = values(words, operation.fields())?;
+    let operation = Operation::named(word).ok_or(Reason::UnknownOperation)?;
+    let values = values(words, Field::used_by(operation))?;
     Ok(operation.call(values))
 }
 
@@ -72,10 +66,9 @@ fn call(word: &[u8], words: &mut Pieces<'_>) -> Result<Call, Reason>
 pub fn is_silent(line: &[u8]) -> bool
     ensures { result ≡ silent (words_at line.now 0) }
 {
-    match Pieces::new(line).next_word() {
-        Some(word) => word[0] == b'#',
-        None => true,
-    }
+    Pieces::new(line)
+        .next_word()
+        .is_none_or(|word| word[0] == b'#')
 }
 
 // The frame count of its line.
@@ -97,10 +90,7 @@ pub fn frames(line: &[u8]) -> Result<u16, Reason>
 fn is_number(word: &[u8], record_number: u32) -> bool
     ensures { result ≡ numbered record_number (number_in 4294967295 word.now) }
 {
-    match number(word, u32::MAX) {
-        Ok(read) => read == record_number,
-        Err(_) => false,
-    }
+    number(word, u32::MAX).is_ok_and(|read| read == record_number)
 }
 
 // The call of a record's line; where a number stands before it, it has to be the record's.
@@ -108,17 +98,13 @@ pub fn record_call(line: &[u8], record_number: u32) -> Result<Call, Reason>
     ensures { result ≡ record_in record_number (words_at line.now 0) }
 {
     let mut words = Pieces::new(line);
-    let Some(first) = words.next_word() else {
-        return Err(Reason::UnknownOperation);
-    };
+    let first = words.next_word().ok_or(Reason::UnknownOperation)?;
     if !first[0].is_ascii_digit() {
         return call(first, &mut words);
     }
     if !is_number(first, record_number) {
         return Err(Reason::RecordNumber);
     }
-    let Some(word) = words.next_word() else {
-        return Err(Reason::UnknownOperation);
-    };
+    let word = words.next_word().ok_or(Reason::UnknownOperation)?;
     call(word, &mut words)
 }

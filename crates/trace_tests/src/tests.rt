@@ -1,10 +1,10 @@
 use calls::Call;
 use refusal::code::Refusal;
 use refusal::file::FileRefusal;
-use std::alloc::Global;
+use std::alloc::{AllocError, Global};
 use std::test::Fail;
 use trace::encode::{encode, encode_frames};
-use trace::listed::{ReadError, read_all};
+use trace::listed::{ReadError, Trace, file_text, read_all};
 use trace::reader::{Reader, check_file};
 
 // What the reader hands out of a file of one record.
@@ -297,4 +297,25 @@ fn turned_away(rt: HostRuntime) -> Result<(), Fail> {
         Err(ReadError::Memory(_)) => Err(Fail::new("no memory")),
         Ok(_) => Err(Fail::new("the file is read")),
     }
+}
+
+// The frame count of a trace, in words.
+fn frames_text(heap: Global, trace: &Trace) -> Result<String, AllocError> {
+    format!(in heap; "{} frames\n", trace.frames)
+}
+
+// The text of a file is what is made of its trace; of one that is turned away, the number of its refusal.
+#[test]
+fn file_texts(rt: HostRuntime) -> Result<(), Fail> {
+    let heap = rt.alloc();
+    let files: [(&[u8], &str); 3] = [
+        (&[0, 7], "7 frames\n"),
+        (&[1, 1, 7], "file 1\n"),
+        (&[0, 7, 7], "file 2\n"),
+    ];
+    for (file, text) in files {
+        let made = file_text(heap, file, |trace| frames_text(heap, trace))?;
+        assert_eq!(rt; made.as_str(), text);
+    }
+    Ok(())
 }

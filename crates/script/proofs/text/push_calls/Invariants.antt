@@ -1,7 +1,7 @@
--- The text so far, and then the lines of what is left, is the whole.
-use Rattle.std.proofs.Common.{◌≡◌, ◌++◌, drop, string_bytes}
+-- The lines of the calls so far stand behind the text.
+use Rattle.std.proofs.Common.{◌≡◌, ◌++◌, take, string_bytes}
 use Rattle.script.specs.Made.{call_lines}
 use Rattle.script.proofs.text.push_calls.Given as goal
 
 abbrev pub invariant-loop-call : goal.invariant-loop-call
-invariant-loop-call l = string_bytes l.text ++ call_lines (drop l.call-index l.calls) ≡ string_bytes l.initial.text ++ call_lines l.calls
+invariant-loop-call l = string_bytes l.text ≡ string_bytes l.initial.text ++ call_lines (take l.call-index l.calls)

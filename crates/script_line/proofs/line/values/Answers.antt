@@ -6,7 +6,7 @@ use Rattle.pieces.specs.Cuts.{words_at}
 use Rattle.script_line.specs.declared.fault.Reason.{Reason}
 use Rattle.script_line.specs.declared.fault.Reason.TheVariants.{ExtraWord}
 use Rattle.script_line.specs.declared.field.Field.{Field}
-use Rattle.script_line.specs.declared.operation.Values.{Values}
+use Rattle.calls.specs.declared.operation.Values.{Values}
 use Rattle.script_line.specs.Form.{field_in, filled, put_in}
 use Rattle.script_line.proofs.line.values.Goals as goal
 
@@ -44,7 +44,7 @@ pub loop-field-preserved : goal.loop-field-preserved
 loop-field-preserved c =
     let law = c.in_ok-value.ensures in (
       law.text ∙ c.loop-field.invariant.0,
-      put c.args.fields.now c.loop-field.field-index _ c.loop-field.values c.put.new.self (words_at c.args.words.now.text.now c.loop-field.words.at)
+      put c.args.fields.now c.loop-field.field-index _ c.loop-field.values c.put.new.values (words_at c.args.words.now.text.now c.loop-field.words.at)
           (words_at c.args.words.now.text.now c.field_value.new.words.at) c.in_ok-value.value _
           c.loop-field-test.true (rw c.loop-field.invariant.0 at law.value) c.put.ensures c.loop-field.invariant.1,
     )

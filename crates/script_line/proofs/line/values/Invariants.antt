@@ -1,7 +1,8 @@
 -- The fields that are left, with the values so far and the words that are left, come to the same.
 use Rattle.std.proofs.Common.{◌≡◌, drop}
 use Rattle.pieces.specs.Cuts.{words_at}
-use Rattle.script_line.specs.Form.{filled, no_values}
+use Rattle.script_line.specs.Form.{filled}
+use Rattle.calls.specs.Operations.{no_values}
 use Rattle.script_line.proofs.line.values.Given as goal
 
 abbrev pub invariant-loop-field : goal.invariant-loop-field

@@ -7,7 +7,7 @@ pub returns-in-NoNumber-clause-writes : goal.returns-in-NoNumber-clause-writes
 returns-in-NoNumber-clause-writes g c = rw c.in-NoNumber.is c.write-in-NoNumber.ensures.writes
 
 pub returns-in-TooLarge-clause-writes : goal.returns-in-TooLarge-clause-writes
-returns-in-TooLarge-clause-writes g c = rw (c.in-TooLarge.is, ← c.max-max.ensures) c.write-in-TooLarge.ensures.writes
+returns-in-TooLarge-clause-writes g c = rw (c.in-TooLarge.is, ← c.max.ensures) c.write-in-TooLarge.ensures.writes
 
 pub returns-in-NoFrames-clause-writes : goal.returns-in-NoFrames-clause-writes
 returns-in-NoFrames-clause-writes g c = rw c.in-NoFrames.is c.write-in-NoFrames.ensures.writes
