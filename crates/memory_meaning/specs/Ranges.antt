@@ -16,10 +16,10 @@ pub record Over (change : Option Mapping → Option Mapping) (v w : View) (space
 abbrev pub ChangesPlace : {U : Type 0} → (Option Mapping → Option Mapping) → View → View → ℕ → ℕ → Result U PmapRefusal → Type 0
 ChangesPlace change v w space page r = AtPlace v w space page r (λ _. Put v w space page (change (v.held space page)))
 
--- and so does each call of a function
-abbrev pub EachChanges : {Y U : Type 0} → (Y → ℕ → Result U PmapRefusal → Y → Type 0) → (Y → Type 0) → (Y → View) → (Option Mapping → Option Mapping) → ℕ → Type 0
+-- and so does each call of a function at a page of the space
+abbrev pub EachChanges : {Y U : Type 0} → (Y → ℕ → ℕ → Result U PmapRefusal → Y → Type 0) → (Y → Type 0) → (Y → View) → (Option Mapping → Option Mapping) → ℕ → Type 0
 EachChanges {Y} {U} returns kept view change space =
-    (y z : Y) (page : ℕ) (r : Result U PmapRefusal) → kept y → returns y page r z → ChangesPlace change (view y) (view z) space page r
+    (y z : Y) (page : ℕ) (r : Result U PmapRefusal) → kept y → returns y space page r z → ChangesPlace change (view y) (view z) space page r
 
 abbrev pub nothing : Option Mapping → Option Mapping
 nothing m = None

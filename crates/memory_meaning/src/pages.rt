@@ -8,7 +8,7 @@ use pmap::interface::Pmap;
 use refusal::pmap::PmapRefusal;
 
 // Changes the mappings of `count` pages from the first on, each by one call.
-fn change_pages<P: Pmap, F: Fn(&mut P, u32) -> Result<(), PmapRefusal>>(
+fn change_pages<P: Pmap, F: Fn(&mut P, u8, u32) -> Result<(), PmapRefusal>>(
     pmap: &mut P,
     space: u8,
     first: u32,
@@ -17,14 +17,14 @@ fn change_pages<P: Pmap, F: Fn(&mut P, u32) -> Result<(), PmapRefusal>>(
 ) -> Result<(), PmapRefusal>
     requires kept { P.kept pmap.old }
     requires range { (space < 4) × (first + count ≤ 262144) }
-    requires takes { (y : _) (page : _) → P.kept y.now → F.pre change y page }
-    requires passes { (y z : _) (page : _) (r : _) → P.kept y.now → F.post change y page r z → page < 262144 → (is_ok r ≡ true) × P.kept z.now }
+    requires takes { (y : _) (page : _) → P.kept y.now → F.pre change y space page }
+    requires passes { (y z : _) (page : _) (r : _) → P.kept y.now → F.post change y space page r z → page < 262144 → (is_ok r ≡ true) × P.kept z.now }
     ensures passes { is_ok result ≡ true }
     ensures changed { (to : Maybe Mapping → Maybe Mapping) → EachChanges (F.post change) (λ y. P.kept y.now) (λ y. P.view y.now) to space → Over to (P.view pmap.old) (P.view pmap.new) space first count }
     ensures kept { P.kept pmap.new }
 {
     for page in first..first + u32::from(count) {
-        change(pmap, page)?;
+        change(pmap, space, page)?;
     }
     Ok(())
 }
@@ -46,7 +46,7 @@ pub fn remove_pages<P: Pmap>(
         space,
         first,
         count,
-        |pmap, page| pmap.remove(space, page),
+        |pmap, space, page| pmap.remove(space, page),
     )
 }
 
@@ -67,7 +67,7 @@ pub fn lower_pages<P: Pmap>(
         space,
         first,
         count,
-        |pmap, page| pmap.lower(space, page),
+        |pmap, space, page| pmap.lower(space, page),
     )
 }
 

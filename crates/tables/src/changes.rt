@@ -1,4 +1,5 @@
 // What changes the tables. Nothing here allocates.
+// Frames come as numbers: the queue holds numbers, which the state keeps below 256, and a pmap takes numbers.
 ghost use Rattle.std.specs.Prelude.{◌≡◌, ℕ, ◌<◌, Bool, [], ◌∷◌, ◌++◌, vec_len, slice_index, slice_index_or, slice_set};
 ghost use Rattle.std.specs.List.{remove};
 ghost use Rattle.rules.specs.declared.counts.Counts.{Counts};

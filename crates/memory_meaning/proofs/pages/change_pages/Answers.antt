@@ -5,9 +5,6 @@ use Rattle.memory_meaning.proofs.pages.change_pages.Goals as goal
 pub loop-page-init : goal.loop-page-init
 loop-page-init g c = (c.requires.kept, λ to does. over_none to (g.P.Pmap.view c.args.pmap.now) c.args.space c.args.first (c.args.first - c.args.first) (omega arith))
 
-pub change-requires : goal.change-requires
-change-requires g c = c.requires.takes _ _ c.loop-page.invariant.0
-
 pub loop-page-preserved : goal.loop-page-preserved
 loop-page-preserved g c =
     let v = g.P.Pmap.view in

@@ -1,4 +1,4 @@
-use Rattle.std.proofs.Common.{◌≡◌, ℕ, ◌+◌, ◌≤◌, Bool, true, false, cond, sym, ap, ◌∙◌, add-zero, arith}
+use Rattle.std.proofs.Common.{◌≡◌, ℕ, ◌+◌, ◌≤◌, Bool, cond, sym, ap, ◌∙◌, add-zero, arith}
 use Rattle.memory_meaning.proofs.StoredPages.{stores_none, stores_more}
 use Rattle.memory_meaning.proofs.pages.store_pages.Goals as goal
 use Rattle.memory_meaning.proofs.pages.store_pages.Goals.{then-branch, else-branch}
@@ -7,16 +7,8 @@ pub loop-x-init : goal.loop-x-init
 loop-x-init g c =
     (c.requires.0, stores_none (g.P.Pmap.view c.args.pmap.now) c.args.store.now c.args.words.now c.args.records.now c.args.object, omega arith)
 
-pub store_page-requires : goal.store_page-requires
-store_page-requires g c =
-    (c.loop-x.invariant.0, (omega arith, (c.requires.1.1.1.0, λ f e. c.requires.1.1.1.1.fits c.loop-x.x f e)))
-
-pub overflow_add-stored : goal.overflow_add-stored
-overflow_add-stored g c = omega arith
-
 at_most : (n x : ℕ) (b : Bool) → n ≤ x → n + cond b 1 0 ≤ x + 1
-at_most n x true h = omega arith
-at_most n x false h = omega arith
+at_most n x b h = grind arith
 
 pub loop-x-preserved : goal.loop-x-preserved
 loop-x-preserved g c =
@@ -33,8 +25,3 @@ loop-x-preserved g c =
       rw same step,
       rw same (at_most c.loop-x.stored c.loop-x.x c.in_ok-store_page.field-0 c.loop-x.invariant.2),
     )
-
-pub returns : goal.returns
-returns g c =
-    let end : c.loop-x.x ≡ 2048 = omega arith in
-    record { stores = rw (sym end) c.loop-x.invariant.1; kept = c.loop-x.invariant.0 }
