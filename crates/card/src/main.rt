@@ -21,39 +21,31 @@ fn seen(rt: &HostRuntime, machine: Machine, calls: &[Call]) -> anyhow::Result<Se
     Ok(seen)
 }
 
-// How an access went, in words.
-fn way(kind: Kind) -> &'static str {
-    match kind {
-        Kind::Hit => "hit",
-        Kind::Soft => "soft fault",
-        Kind::Hard => "hard fault",
+// How an accepted read or write went.
+fn kind_of(reply: Option<Reply>) -> Option<Kind> {
+    match reply {
+        Some(Ok(Answer::Read(reading))) => Some(reading.report.kind),
+        Some(Ok(Answer::Wrote(report))) => Some(report.kind),
+        _ => None,
     }
 }
 
-// The kind of an accepted read or write, in words.
-fn way_of(reply: Option<Reply>) -> &'static str {
-    match reply {
-        Some(Ok(Answer::Read(reading))) => way(reading.report.kind),
-        Some(Ok(Answer::Wrote(report))) => way(report.kind),
-        _ => "no access",
+// The same in words.
+fn way_of(rt: &HostRuntime, reply: Option<Reply>) -> anyhow::Result<String> {
+    match kind_of(reply) {
+        Some(kind) => Ok(format!(in rt.alloc(); "{kind}")?),
+        None => Ok(format!(in rt.alloc(); "no access")?),
     }
 }
 
 // Whether an access was accepted and is a hit.
 fn is_hit(reply: Option<Reply>) -> bool {
-    match reply {
-        Some(Ok(Answer::Read(reading))) => matches!(reading.report.kind, Kind::Hit),
-        Some(Ok(Answer::Wrote(report))) => matches!(report.kind, Kind::Hit),
-        _ => false,
-    }
+    kind_of(reply) == Some(Kind::Hit)
 }
 
 // Whether a read gave the word that was written.
 fn gives_word(reply: Option<Reply>) -> bool {
-    match reply {
-        Some(Ok(Answer::Read(reading))) => reading.word == WORD,
-        _ => false,
-    }
+    matches!(&reply, Some(Ok(Answer::Read(reading))) if reading.word == WORD)
 }
 
 // The reply that many places before the last one.
@@ -70,9 +62,9 @@ fn check_written(rt: &HostRuntime, machine: Machine) -> anyhow::Result<bool> {
     let kept = gives_word(crowded) && gives_word(evicted);
     println!(rt;
         "  written, crowded by 24 places, read back: {}",
-        way_of(crowded)
+        way_of(rt, crowded)?
     )?;
-    println!(rt; "  pushed out by two pages, read back: {}", way_of(evicted))?;
+    println!(rt; "  pushed out by two pages, read back: {}", way_of(rt, evicted)?)?;
     println!(rt; "  both times the word that was written: {kept}")?;
     Ok(kept)
 }
@@ -82,20 +74,19 @@ fn check_wired(rt: &HostRuntime, machine: Machine) -> anyhow::Result<bool> {
     let seen = seen(rt, machine, &wired_and_crowded(rt.alloc())?)?;
     let read = from_end(&seen, 1);
     let write = from_end(&seen, 0);
-    println!(rt; "  wired, crowded by 24 places, read: {}", way_of(read))?;
-    println!(rt; "  and written: {}", way_of(write))?;
+    println!(rt; "  wired, crowded by 24 places, read: {}", way_of(rt, read)?)?;
+    println!(rt; "  and written: {}", way_of(rt, write)?)?;
     Ok(is_hit(read) && is_hit(write))
 }
 
 // An eviction at every position of a store and its sync.
 fn check_positions(rt: &HostRuntime, machine: Machine) -> anyhow::Result<bool> {
-    let mut kept = 0usize;
+    let mut words = Vec::new(rt.alloc());
     for position in 0..POSITIONS {
         let seen = seen(rt, machine, &evicted_at(rt.alloc(), position)?)?;
-        if gives_word(from_end(&seen, 0)) {
-            kept = kept.saturating_add(1);
-        }
+        words.push(gives_word(from_end(&seen, 0)))?;
     }
+    let kept = words.iter().filter(|kept| **kept).count();
     println!(rt;
         "  pushed out at each of 5 positions around store and sync, word kept: {kept} times"
     )?;
@@ -103,8 +94,8 @@ fn check_positions(rt: &HostRuntime, machine: Machine) -> anyhow::Result<bool> {
 }
 
 // The checks of one machine.
-fn check_machine(rt: &HostRuntime, name: &str, machine: Machine) -> anyhow::Result<bool> {
-    println!(rt; "{name}")?;
+fn check_machine(rt: &HostRuntime, machine: Machine) -> anyhow::Result<bool> {
+    println!(rt; "{}", machine.name())?;
     let written = check_written(rt, machine)?;
     let wired = check_wired(rt, machine)?;
     let positions = check_positions(rt, machine)?;
@@ -130,11 +121,11 @@ fn check_loads(rt: &HostRuntime) -> anyhow::Result<bool> {
 }
 
 fn run(rt: &HostRuntime) -> anyhow::Result<()> {
-    let x86 = check_machine(rt, "x86-64", Machine::X86)?;
-    let powerpc = check_machine(rt, "powerpc", Machine::PowerPc)?;
-    let pile = check_machine(rt, "pile", Machine::Pile)?;
-    let same = check_loads(rt)?;
-    if x86 && powerpc && pile && same {
+    let mut kept = true;
+    for machine in Machine::ALL {
+        kept = check_machine(rt, machine)? && kept;
+    }
+    if check_loads(rt)? && kept {
         println!(rt; "carried out 4 checks on 3 machines: nothing was lost")?;
     } else {
         println!(rt; "carried out 4 checks on 3 machines: something was lost")?;

@@ -1,8 +1,8 @@
 -- What the program prints of a file: three blocks that agree, or the refusal of the file. Assumes nothing.
-use Rattle.std.specs.Prelude.{◌≡◌, ℕ, List, ◌++◌, Ok, Err, codes, decimal, Result}
+use Rattle.std.specs.Prelude.{◌≡◌, ℕ, List, ◌++◌, Ok, Err, codes, Result}
 use Rattle.refusal.specs.declared.file.FileRefusal.{FileRefusal}
-use Rattle.refusal.specs.Codes.{file_code}
 use Rattle.trace.specs.declared.record.Entry.{Entry}
+use Rattle.trace.specs.Words.{refused_text}
 use Rattle.rules.specs.Laws.{Agree}
 use Rattle.replays.specs.Replayed.{Replayed}
 
@@ -19,5 +19,5 @@ pub record Blocks (frames : ℕ) (entries : List Entry) (text : List ℕ) : Type
   pub pile_agrees : Agree radix.law.trail.history pile.law.trail.history
 
 abbrev pub ReplayText : Result ℕ FileRefusal → List Entry → List ℕ → Type 0
-ReplayText (Err e) entries text = text ≡ codes "file " ++ (decimal (file_code e).number ++ codes "\n")
+ReplayText (Err e) entries text = text ≡ refused_text e
 ReplayText (Ok frames) entries text = Blocks frames entries text

@@ -2,6 +2,7 @@
 // sync looks through no table.
 ghost use Rattle.std.specs.Prelude.{◌≡◌, false, IfOk, MatchOption};
 ghost use Rattle.memory.specs.Making.{fits_frames};
+ghost use Rattle.machines.specs.Names.{name_of};
 ghost use Rattle.machines.specs.Shows.{Shows};
 
 use calls::Call;
@@ -17,25 +18,19 @@ use runs::run::run;
 use std::alloc::{AllocError, Global};
 use x86_pmap::meaning::X86;
 
-// the words of each board's table memory
-const X86_WORDS: usize = 8_192;
-
-const POWERPC_WORDS: usize = 16_384;
-
 // how far the pile's pages are shifted
 const SHIFT: u32 = 3;
 
+// A board of the words that it wants is refused for want of memory alone.
 pub(crate) fn x86(heap: Global) -> Result<Noted<X86>, AllocError> {
-    let Ok(board) = X86::new(heap, vec![in heap; 0; X86_WORDS]?) else {
-        return Err(AllocError);
-    };
+    let board = X86::new(heap, vec![in heap; 0; x86::board::WORDS]?).map_err(|_| AllocError)?;
     Ok(Noted::new(board))
 }
 
 pub(crate) fn powerpc(heap: Global) -> Result<Noted<Hashed>, AllocError> {
-    let Ok(board) = Hashed::new(heap, vec![in heap; 0; POWERPC_WORDS]?) else {
-        return Err(AllocError);
-    };
+    let board = Hashed::new(heap, vec![in heap; 0; powerpc::board::WORDS]?).map_err(
+        |_| AllocError,
+    )?;
     Ok(Noted::new(board))
 }
 
@@ -43,16 +38,31 @@ pub(crate) fn powerpc(heap: Global) -> Result<Noted<Hashed>, AllocError> {
 pub(crate) fn pile(heap: Global) -> Result<Offset<Replica<Noted<X86>, Noted<Hashed>>>, AllocError> {
     let both = Replica::new(x86(heap)?, powerpc(heap)?);
     let Ok(shifted) = Offset::new(both, SHIFT) else {
-        return Err(AllocError);
+        unreachable()
     };
     Ok(shifted)
 }
 
-#[derive(Clone, Copy)]
+#[derive(Clone, Copy, PartialEq, Eq, Debug)]
 pub enum Machine {
     X86,
     PowerPc,
     Pile,
+}
+
+impl Machine {
+    pub const ALL: [Machine; 3] = [Machine::X86, Machine::PowerPc, Machine::Pile];
+
+    // Its name, as blocks begin with it.
+    pub fn name(self) -> &'static str
+        ensures { result.now ≡ name_of self }
+    {
+        match self {
+            Machine::X86 => "x86-64",
+            Machine::PowerPc => "powerpc",
+            Machine::Pile => "pile",
+        }
+    }
 }
 
 // What each call of a run was answered, and the counts at its end.
@@ -74,10 +84,8 @@ fn run_over<P: Pmap + Drop>(
     if !fits_frames(frames) {
         return Ok(None);
     }
-    let Ok(ran) = run(heap, pmap, frames, calls) else {
-        return Err(AllocError);
-    };
-    let counts = ran.memory.counts;
+    let ran = run(heap, pmap, frames, calls).map_err(|_| AllocError)?;
+    let counts = ran.memory.counts();
     Ok(Some(Seen {
         replies: ran.replies,
         counts,

@@ -3,19 +3,18 @@ ghost use Rattle.std.specs.Prelude.{◌≡◌, ◌++◌, IfOk, string_bytes, cod
 ghost use Rattle.trace.specs.Format.{checked, entries_of};
 ghost use Rattle.machines.specs.Replays.{Blocks, ReplayText};
 
-use crate::machine::{pile, powerpc, x86};
-use refusal::code::Refusal;
+use crate::machine::{Machine, pile, powerpc, x86};
 use replays::block::replay_on;
 use std::alloc::{AllocError, Global};
-use trace::listed::{ReadError, Trace, read_all};
+use trace::listed::{Trace, file_text};
 
 // The blocks of a trace, one behind another.
 fn blocks(heap: Global, trace: &Trace) -> Result<String, AllocError>
     ensures { IfOk result (λ t. Blocks trace.now.frames trace.now.entries.items (string_bytes t)) }
 {
-    let mut text = replay_on(heap, "x86-64", x86(heap)?, trace)?;
-    let second = replay_on(heap, "powerpc", powerpc(heap)?, trace)?;
-    let third = replay_on(heap, "pile", pile(heap)?, trace)?;
+    let mut text = replay_on(heap, Machine::X86.name(), x86(heap)?, trace)?;
+    let second = replay_on(heap, Machine::PowerPc.name(), powerpc(heap)?, trace)?;
+    let third = replay_on(heap, Machine::Pile.name(), pile(heap)?, trace)?;
     text.push_str(second.as_str())?;
     text.push_str(third.as_str())?;
     Ok(text)
@@ -25,12 +24,5 @@ fn blocks(heap: Global, trace: &Trace) -> Result<String, AllocError>
 pub fn replay_all(heap: Global, bytes: &[u8]) -> Result<String, AllocError>
     ensures { IfOk result (λ t. ReplayText (checked bytes.now) (entries_of bytes.now) (string_bytes t)) }
 {
-    match read_all(heap, bytes) {
-        Ok(trace) => blocks(heap, &trace),
-        Err(ReadError::File(refusal)) => {
-            let number = refusal.code().number;
-            format!(in heap; "file {number}\n")
-        }
-        Err(ReadError::Memory(e)) => Err(e),
-    }
+    file_text(heap, bytes, |trace| blocks(heap, trace))
 }

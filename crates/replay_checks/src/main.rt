@@ -17,16 +17,16 @@ fn agrees(rt: &HostRuntime, name: &str) -> anyhow::Result<bool> {
 
 fn run(rt: &HostRuntime) -> anyhow::Result<()> {
     let names = fs::read_to_string(rt, "names")?;
-    let mut same = 0usize;
-    let mut other = 0usize;
+    let mut agreed = Vec::new(rt.alloc());
     for name in names.as_str().lines() {
-        if agrees(rt, name)? {
-            same = same.saturating_add(1);
-        } else {
-            other = other.saturating_add(1);
+        let same = agrees(rt, name)?;
+        if !same {
             println!(rt; "{name} differs")?;
         }
+        agreed.push(same)?;
     }
+    let same = agreed.iter().filter(|same| **same).count();
+    let other = agreed.iter().filter(|same| !**same).count();
     println!(rt; "replayed {same} traces as the reference does, {other} otherwise")?;
     Ok(())
 }

@@ -51,8 +51,7 @@ pub fn replay_on<P: Pmap + Drop>(
     ensures { IfOk result (λ t. Replayed trace.now.frames trace.now.entries.items name.now (string_bytes t)) }
 {
     let calls = calls_in(heap, &trace.entries)?;
-    let Ok(ran) = run(heap, pmap, trace.frames, &calls) else {
-        return Err(AllocError);
-    };
+    // the reader has seen to it that the frame count fits
+    let ran = run(heap, pmap, trace.frames, &calls).map_err(|_| AllocError)?;
     block(heap, name, &trace.entries, &ran)
 }

@@ -1,4 +1,5 @@
-use Rattle.std.proofs.Common.{◌≡◌, ℕ, List, ◌++◌, vec_items, string_bytes, codes, ap, ◌∙◌}
+use Rattle.std.proofs.Common.{◌≡◌, ℕ, List, ◌++◌, vec_items, string_bytes, codes, ap, ◌∙◌, subst}
+use Rattle.replays.specs.Replayed.{Replayed}
 use Rattle.machines.proofs.Agreeing.{replays_agree}
 use Rattle.machines.proofs.text.blocks.Goals as goal
 
@@ -8,9 +9,9 @@ joined one two three mid new p q a b c d = c ∙ ap (λ z. z ++ q) (a ∙ ap (λ
 pub returns : goal.returns
 returns c =
     let trace = c.args.trace.now in
-    let x = c.in_ok-text.ensures in
-    let y = c.in_ok-second.ensures in
-    let z = c.in_ok-third.ensures in
+    let x = subst (λ n. Replayed trace.frames (vec_items trace.entries) n (string_bytes c.in_ok-text.text)) c.name.ensures c.in_ok-text.ensures in
+    let y = subst (λ n. Replayed trace.frames (vec_items trace.entries) n (string_bytes c.in_ok-second.second)) c.name-2.ensures c.in_ok-second.ensures in
+    let z = subst (λ n. Replayed trace.frames (vec_items trace.entries) n (string_bytes c.in_ok-third.third)) c.name-3.ensures c.in_ok-third.ensures in
     record {
       first = string_bytes c.in_ok-text.text;
       second = string_bytes c.in_ok-second.second;
