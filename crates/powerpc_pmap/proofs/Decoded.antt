@@ -1,12 +1,13 @@
 -- The slots that a board's words spell.
-use Rattle.std.proofs.Common.{◌≡◌, ℕ, ◌<◌, ◌≤◌, Bool, true, false, cond, ◌&&◌, ltb, get_or, Some, None, Option, sym, ap, ◌∙◌, ⊎_elim, arith}
-use Rattle.std.proofs.lemmas.Bool.{cases_Bool, cond-true, cond-false, and_from, and_parts, and_left, and_right, lt-ltb, le-ltb, ltb-true}
+use Rattle.std.proofs.lemmas.Bool.Decides.{nat_tests}
+use Rattle.std.proofs.Common.{◌≡◌, ℕ, ◌<◌, ◌≤◌, Bool, false, cond, ◌&&◌, ltb, get_or, Some, None, Option, ap, ◌∙◌, arith}
+use Rattle.std.proofs.lemmas.Bool.{cond-true, cond-false, and_from, and_left, and_right, lt-ltb, le-ltb}
 use Rattle.slots.specs.Slots.{Entry, Table}
 use Rattle.slots.proofs.Shown.{none_some, some_inj}
 use Rattle.powerpc_words.specs.Fields.{frame_of, protection_of, changed}
 use Rattle.powerpc_words.specs.State.{State, first, second, wired_at}
 use Rattle.powerpc_words.proofs.HashLaws.{space_in, page_in, entry_above, entry_space, entry_page}
-use Rattle.powerpc_pmap.specs.Kept.{At, Unused, Used, Kept}
+use Rattle.powerpc_pmap.specs.Kept.{At, Used, Kept}
 
 abbrev pub entry_at : State → ℕ → Entry
 entry_at st k = record {
@@ -31,7 +32,7 @@ module _ (st : State) (k : ℕ) where
 
   pub slot_unused : first st k ≡ 0 → slot_at st k ≡ None
   unfolding slot_at
-  slot_unused e = cond-false _ _ _ (and_right (ltb k 8192) _ (le-ltb 0 (first st k) (omega arith)))
+  slot_unused e = grind (arith, nat_tests, and_right)
 
   pub slot_past : 8192 ≤ k → slot_at st k ≡ None
   unfolding slot_at
@@ -39,12 +40,7 @@ module _ (st : State) (k : ℕ) where
 
   pub slot_some : (e : Entry) → slot_at st k ≡ Some e → (k < 8192) × (0 < first st k) × (entry_at st k ≡ e)
   unfolding slot_at
-  slot_some e h = ⊎_elim
-      (λ (t : (ltb k 8192 && ltb 0 (first st k)) ≡ true).
-      let parts = and_parts (ltb k 8192) (ltb 0 (first st k)) t in
-      (ltb-true _ _ parts.0, ltb-true _ _ parts.1, some_inj (sym (cond-true _ _ _ t) ∙ h)))
-      (λ (t : (ltb k 8192 && ltb 0 (first st k)) ≡ false). absurd (none_some (sym (cond-false _ _ _ t) ∙ h)))
-      (cases_Bool (ltb k 8192 && ltb 0 (first st k)))
+  slot_some e h = grind (arith, nat_tests, some_inj, none_some)
 
   -- a slot that has the first word of a place spells that place
   pub at_used : (s p : ℕ) (side : Bool) → At st s p side k → slot_at st k ≡ Some (entry_at st k)
@@ -54,13 +50,11 @@ module _ (st : State) (k : ℕ) where
   at_space s p side at = ap space_in at.word ∙ entry_space s p side at.space at.page
 
   pub at_page : (s p : ℕ) (side : Bool) → At st s p side k → (entry_at st k).page ≡ p
-  at_page s p side at = ap (page_in k) at.word ∙ entry_page s p side at.space at.page k at.group
+  at_page s p side at = grind (arith, nat_tests, entry_page)
 
   -- a slot that holds an entry is in use
   pub some_used : Kept st → (e : Entry) → slot_at st k ≡ Some e → Used st k
-  some_used kept e h =
-      let r = slot_some e h in
-      ⊎_elim (λ (u : Unused st k). absurd (omega (arith, u.first, r.1))) (λ (u : Used st k). u) (kept.slot k r.0)
+  some_used kept e h = grind (arith, nat_tests, slot_some)
 
 -- slots with the same words and wired mark hold the same
 pub slot_same : (st sv : State) (k : ℕ) → first sv k ≡ first st k → second sv k ≡ second st k → wired_at sv k ≡ wired_at st k → slot_at sv k ≡ slot_at st k

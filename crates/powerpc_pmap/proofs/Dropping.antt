@@ -1,6 +1,7 @@
 -- All slots of a frame are emptied.
-use Rattle.std.proofs.Common.{◌≡◌, ℕ, ◌+◌, ◌*◌, ◌/◌, ◌<◌, ◌≤◌, Bool, true, false, cond, ◌&&◌, eqb, get_or, None, Option, sym, refl, ap, ◌∙◌, subst, inl, inr, ⊎_elim, arith}
-use Rattle.std.proofs.lemmas.Bool.{lt-ltb, cases_Bool, cases_eq, cases_lt, cond-true, cond-false, eq-eqb}
+use Rattle.std.proofs.lemmas.Bool.Decides.{nat_tests}
+use Rattle.std.proofs.Common.{◌≡◌, ℕ, ◌+◌, ◌*◌, ◌/◌, ◌<◌, ◌≤◌, Bool, true, false, cond, eqb, get_or, None, Option, sym, refl, ap, ◌∙◌, subst, inl, inr, ⊎_elim, arith}
+use Rattle.std.proofs.lemmas.Bool.{cases_Bool, cases_eq, cases_lt, cond-true, cond-false, eq-eqb}
 use Rattle.std.proofs.lemmas.List.FromFn.{length-map-range_with_len, get_or-map-range_with_len}
 use Rattle.std.proofs.lemmas.List.{get_or-set_same, get_or-set_other, length-set}
 use Rattle.slots.specs.Slots.{Entry}
@@ -18,7 +19,7 @@ use Rattle.powerpc_pmap.proofs.Keeping.{same, gone, kept_tame}
 -- a slot in use maps its own frame
 pub used_maps : (st : State) (k f : ℕ) → 0 < first st k → maps st.words f k ≡ eqb (frame_of (second st k)) f
 unfolding maps
-used_maps st k f h = ap (λ t. t && eqb (frame_of (second st k)) f) (lt-ltb 0 (first st k) h)
+used_maps st k f h = grind (arith, nat_tests)
 
 module _ (st : State) (kept : Kept st) (f : ℕ) where
   dropped_first : (k : ℕ) → k < 8192 → first (dropped st f) k ≡ cond (maps st.words f k) 0 (first st k)
@@ -40,11 +41,7 @@ module _ (st : State) (kept : Kept st) (f : ℕ) where
   dropped_wired_is k b = get_or-map-range_with_len (dropped_wired st.words st.wired f) 0 8192 k k false b (omega arith)
 
   dropped_here : (k : ℕ) → k < 8192 → maps st.words f k ≡ true → Unused (dropped st f) k
-  dropped_here k b t = record {
-    first = dropped_first k b ∙ cond-true _ _ _ t;
-    second = dropped_second k b ∙ cond-true _ _ _ t;
-    wired = dropped_wired_is k b ∙ cond-true _ _ _ t;
-  }
+  dropped_here k b t = grind (arith, nat_tests, dropped_first, dropped_second, dropped_wired_is)
 
   pub dropped_keeps : Kept (dropped st f)
   unfolding dropped
@@ -61,7 +58,7 @@ module _ (st : State) (kept : Kept st) (f : ℕ) where
   module _ (f_fits : f < 256) where
     mark_here : get_or (dropped st f).marks f false ≡ modified_in st f
     unfolding dropped
-    mark_here = get_or-set_same st.marks f (modified_in st f) false (omega (arith, kept.marks))
+    mark_here = grind (arith, nat_tests, get_or-set_same)
 
     mark_there : (g : ℕ) → (g ≡ f → ⊥) → get_or (dropped st f).marks g false ≡ get_or st.marks g false
     unfolding dropped

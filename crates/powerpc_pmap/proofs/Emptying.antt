@@ -1,6 +1,7 @@
 -- Slots that are emptied.
+use Rattle.std.proofs.lemmas.Bool.Decides.{nat_tests}
 use Rattle.std.proofs.Common.{◌≡◌, ℕ, ◌+◌, ◌*◌, ◌<◌, true, false, cond, eqb, List, length, get_or, set, sym, refl, ap, ◌∙◌, subst, inl, inr, ⊎_elim, arith}
-use Rattle.std.proofs.lemmas.Bool.{cases_Bool, cases_eq, cond-true, cond-false, eq-eqb, ne_eqb, eqb-true, both_ways}
+use Rattle.std.proofs.lemmas.Bool.{cases_Bool, cases_eq, cond-true, cond-false, eq-eqb, ne_eqb, eqb-true}
 use Rattle.std.proofs.lemmas.List.{get_or-set_same, get_or-set_other, length-set}
 use Rattle.slots.specs.Changes.{Emptied}
 use Rattle.powerpc_words.specs.Fields.{frame_of, changed}
@@ -14,18 +15,16 @@ use Rattle.powerpc_pmap.proofs.Colors.{changed_zero, shaped_frame}
 -- both words of a slot written
 module _ (ws : List ℕ) (j a b : ℕ) where
   pub pair_first : 2 * j + 1 < length ws → get_or (set (set ws (2 * j) a) (2 * j + 1) b) (2 * j) 0 ≡ a
-  pair_first h = get_or-set_other (set ws (2 * j) a) (2 * j + 1) (2 * j) b 0 (λ e. omega arith) ∙ get_or-set_same ws (2 * j) a 0 (omega arith)
+  pair_first h = grind (arith, nat_tests, get_or-set_other, get_or-set_same)
 
   pub pair_second : 2 * j + 1 < length ws → get_or (set (set ws (2 * j) a) (2 * j + 1) b) (2 * j + 1) 0 ≡ b
-  pair_second h = get_or-set_same (set ws (2 * j) a) (2 * j + 1) b 0 (simp length-set (omega arith))
+  pair_second h = grind (arith, nat_tests, get_or-set_same, length-set)
 
   pub pair_first_other : (k : ℕ) → (k ≡ j → ⊥) → get_or (set (set ws (2 * j) a) (2 * j + 1) b) (2 * k) 0 ≡ get_or ws (2 * k) 0
-  pair_first_other k far =
-      get_or-set_other (set ws (2 * j) a) (2 * j + 1) (2 * k) b 0 (λ e. omega arith) ∙ get_or-set_other ws (2 * j) (2 * k) a 0 (λ e. far (omega arith))
+  pair_first_other k far = grind (arith, nat_tests, get_or-set_other)
 
   pub pair_second_other : (k : ℕ) → (k ≡ j → ⊥) → get_or (set (set ws (2 * j) a) (2 * j + 1) b) (2 * k + 1) 0 ≡ get_or ws (2 * k + 1) 0
-  pair_second_other k far =
-      get_or-set_other (set ws (2 * j) a) (2 * j + 1) (2 * k + 1) b 0 (λ e. far (omega arith)) ∙ get_or-set_other ws (2 * j) (2 * k + 1) a 0 (λ e. omega arith)
+  pair_second_other k far = grind (arith, nat_tests, get_or-set_other)
 
   pub pair_length : length (set (set ws (2 * j) a) (2 * j + 1) b) ≡ length ws
   pair_length = length-set (set ws (2 * j) a) (2 * j + 1) b ∙ length-set ws (2 * j) a
@@ -68,10 +67,7 @@ module _ (st : State) (kept : Kept st) (j : ℕ) (b : j < 8192) (sv : State) (c 
   wired_there k far = ap (λ l. get_or l k false) c.wired ∙ get_or-set_other st.wired j k false false far
 
   pub emptied_tame : (k : ℕ) → k < 8192 → Tame st sv k
-  emptied_tame k h = ⊎_elim
-      (λ (q : k ≡ j). gone (subst (Unused sv) (sym q) here))
-      (λ (q : k ≡ j → ⊥). same (first_there k q) (second_there k q) (wired_there k q))
-      (cases_eq k j)
+  emptied_tame k h = grind (arith, nat_tests, gone, here, same, first_there, second_there, wired_there)
 
   marks_length : length sv.marks ≡ length st.marks
   unfolding emptied
@@ -86,10 +82,7 @@ module _ (st : State) (kept : Kept st) (j : ℕ) (b : j < 8192) (sv : State) (c 
       (ap length c.wired ∙ length-set st.wired j false) x
 
   in_use : changed (second st j) ≡ true → Used st j
-  in_use t = ⊎_elim
-      (λ (u : Unused st j). absurd (both_ways (changed (second st j)) (ap changed u.second ∙ changed_zero) t))
-      (λ (u : Used st j). u)
-      (kept.slot j b)
+  in_use t = grind (arith, nat_tests, changed_zero)
 
   marks_on : changed (second st j) ≡ true → sv.marks ≡ set st.marks (frame_of (second st j)) true
   unfolding emptied

@@ -1,6 +1,7 @@
 -- An enter: the old entry goes, perhaps one is forgotten, the new one is written.
+use Rattle.std.proofs.lemmas.Bool.Decides.{nat_tests}
 use Rattle.std.proofs.Common.{◌≡◌, ℕ, ◌<◌, Bool, true, false, ◌&&◌, eqb, ◌⊎◌, Some, None, Option, sym, refl, ap, ◌∙◌, subst, inl, inr, ⊎_elim, arith}
-use Rattle.std.proofs.lemmas.Bool.{cond-true, and_from, and_parts, eq-eqb, ne_eqb, eqb-true, both_ways}
+use Rattle.std.proofs.lemmas.Bool.{cond-true, ne_eqb, eqb-true, both_ways}
 use Rattle.pmap.specs.Meaning.{Mapping, View, Put, PutForgetting, Stays}
 use Rattle.pmap.specs.Tally.{tally}
 use Rattle.slots.specs.Slots.{Entry}
@@ -13,7 +14,7 @@ use Rattle.powerpc_words.proofs.CallLaws.{removed_none, removed_some, holds_none
 use Rattle.powerpc_pmap.specs.View.{view_of}
 use Rattle.powerpc_pmap.specs.Kept.{At, Kept}
 use Rattle.powerpc_pmap.proofs.Finds.{option_cases, InGroup, in_group_below, lookup_finds, lookup_at, unused_finds, victim_finds}
-use Rattle.powerpc_pmap.proofs.Decoded.{entry_at, slot_at, table, slot_some, at_used, at_space, at_page}
+use Rattle.powerpc_pmap.proofs.Decoded.{slot_at, table, slot_some, at_used, at_space, at_page}
 use Rattle.powerpc_pmap.proofs.Showing.{place_fits, shows, single}
 use Rattle.powerpc_pmap.proofs.Keeping.{tally_mono, tame_wired}
 use Rattle.powerpc_pmap.proofs.Emptying.{cleared_emptied, cleared_forgotten, here, emptied_tame, emptied_keeps, emptied_table}
@@ -50,15 +51,7 @@ module _ (st : State) (kept : Kept st) (s p : ℕ) (s_fits : s < 4) (p_fits : p 
 
   -- the slot of the place is the one that goes
   exact : (side : Bool) (k : ℕ) → At st s p side k → (j : ℕ) (e : Entry) → slot_at st j ≡ Some e → eqb j k ≡ (eqb e.space s && eqb e.page p)
-  exact side k at j e h = bool_same _ _
-      (λ t. let q = eqb-true j k t in
-      let same = (slot_some st j e h).2 in
-      and_from _ _
-      (eq-eqb _ _ (sym (ap (λ z. z.space) same) ∙ ap (λ x. (entry_at st x).space) q ∙ at_space st k s p side at))
-      (eq-eqb _ _ (sym (ap (λ z. z.page) same) ∙ ap (λ x. (entry_at st x).page) q ∙ at_page st k s p side at)))
-      (λ t. let parts = and_parts (eqb e.space s) (eqb e.page p) t in
-      eq-eqb j k (single st kept j k e (entry_at st k) h (at_used st k s p side at)
-      (eqb-true _ _ parts.0 ∙ sym (at_space st k s p side at)) (eqb-true _ _ parts.1 ∙ sym (at_page st k s p side at))))
+  exact side k at j e h = grind (arith, nat_tests, bool_same, slot_some, at_space, at_page, single, at_used)
 
   -- ---- remove
   pub record Removed (sv : State) : Type 0 where

@@ -1,4 +1,5 @@
 -- A new entry is written into an unused slot.
+use Rattle.std.proofs.lemmas.Bool.Decides.{nat_tests}
 use Rattle.std.proofs.Common.{◌≡◌, ℕ, ◌+◌, ◌*◌, ◌/◌, ◌<◌, Bool, true, false, cond, not, eqb, ◌⊎◌, length, Some, sym, refl, ap, ◌∙◌, subst, inl, inr, ⊎_elim, arith}
 use Rattle.std.proofs.lemmas.Bool.{cases_Bool, cases_eq, cond-true, cond-false, eq-eqb, ne_eqb, both_ways}
 use Rattle.std.proofs.lemmas.List.{get_or-set_same, get_or-set_other, length-set}
@@ -35,7 +36,7 @@ module _ (st : State) (kept : Kept st) (s p : ℕ) (s_fits : s < 4) (p_fits : p 
 
   first_here : first (filled st k s p f q w) k ≡ entry_word s p place.side
   unfolding filled
-  first_here = pair_first st.words k _ _ room ∙ ap (entry_word s p) (side_is s p k place.side place.group)
+  first_here = grind (arith, nat_tests, pair_first, room, side_is)
 
   second_here : second (filled st k s p f q w) k ≡ second_word f q
   unfolding filled
@@ -59,10 +60,10 @@ module _ (st : State) (kept : Kept st) (s p : ℕ) (s_fits : s < 4) (p_fits : p 
 
   -- the new entry has the place's first word
   new_at : At (filled st k s p f q w) s p place.side k
-  new_at = record { below = below; space = s_fits; page = p_fits; group = place.group; word = first_here }
+  new_at = grind (arith, nat_tests, below, first_here)
 
   new_used : Used (filled st k s p f q w) k
-  new_used = record { space = s; page = p; side = place.side; at = new_at; shape = subst Shaped (sym second_here) (new_shaped f q f_fits) }
+  new_used = grind (arith, nat_tests, new_at, second_here, new_shaped)
 
   old_slot : (j : ℕ) → (j ≡ k → ⊥) → Unused st j ⊎ Used st j → Unused (filled st k s p f q w) j ⊎ Used (filled st k s p f q w) j
   old_slot j far (inl u) = inl (record { first = first_there j far ∙ u.first; second = second_there j far ∙ u.second; wired = wired_there j far ∙ u.wired })
@@ -82,7 +83,7 @@ module _ (st : State) (kept : Kept st) (s p : ℕ) (s_fits : s < 4) (p_fits : p 
   )
 
   old_at : (a b : ℕ) (g : Bool) (j : ℕ) → (j ≡ k → ⊥) → At (filled st k s p f q w) a b g j → At st a b g j
-  old_at a b g j far at = record { below = at.below; space = at.space; page = at.page; group = at.group; word = sym (first_there j far) ∙ at.word }
+  old_at a b g j far at = grind (arith, nat_tests, below, first_there)
 
   module _ (free : (g : Bool) (j : ℕ) → At st s p g j → ⊥) where
     apart : (a b : ℕ) (g h : Bool) (j : ℕ) → (j ≡ k → ⊥) → At (filled st k s p f q w) a b g j → At (filled st k s p f q w) a b h k → ⊥

@@ -1,4 +1,5 @@
 -- What the searches find, and what it means that they find nothing.
+use Rattle.std.proofs.lemmas.Bool.Decides.{nat_tests}
 use Rattle.std.proofs.Common.{◌≡◌, ℕ, zero, suc, ◌+◌, ◌*◌, ◌/◌, ◌%◌, ◌<◌, ◌≤◌, Bool, true, false, eqb, ◌⊎◌, List, get_or, Some, None, Option, sym, refl, ap, ◌∙◌, subst, inl, inr, ⊎_elim, arith}
 use Rattle.std.proofs.lemmas.Bool.{cases_Bool, cases_eq, cond-true, cond-false, eqb-true, eqb-false}
 use Rattle.slots.proofs.Shown.{none_some, some_inj}
@@ -43,7 +44,7 @@ module _ (words : List ℕ) (w : ℕ) where
       (omega (arith, r.0, r.1), r.2)
 
   pub slot_in_misses : (g k : ℕ) → slot_in words g w ≡ None → k / 8 ≡ g → get_or words (2 * k) 0 ≡ w → ⊥
-  slot_in_misses g k e q h = slot_from_misses 8 (8 * g) k (sym (slot_in_is words g w) ∙ e) (omega arith) (omega arith) h
+  slot_in_misses g k e q h = grind (arith, nat_tests, slot_from_misses, slot_in_is)
 
 module _ (wired : List Bool) (g : ℕ) where
   unwired_from_finds : (n at k : ℕ) → unwired_from wired g at n ≡ Some k → (k / 8 ≡ g) × (get_or wired k false ≡ false)
@@ -85,7 +86,7 @@ in_group_below s p k g = omega (arith, g.group, group_below s p g.side)
 
 module _ (st : State) (s p : ℕ) (s_fits : s < 4) (p_fits : p < 262144) where
   at_slot : (side : Bool) (k : ℕ) → k / 8 ≡ group s p side → first st k ≡ entry_word s p side → At st s p side k
-  at_slot side k g w = record { below = omega (arith, g, group_below s p side); space = s_fits; page = p_fits; group = g; word = w }
+  at_slot side k g w = grind (arith, nat_tests, group_below)
 
   pub lookup_finds : (k : ℕ) → lookup st.words s p ≡ Some k → (side : Bool) × At st s p side k
   lookup_finds k e = ⊎_elim
@@ -98,14 +99,7 @@ module _ (st : State) (s p : ℕ) (s_fits : s < 4) (p_fits : p < 262144) where
       (option_cases (slot_in st.words (group s p false) (entry_word s p false)))
 
   pub lookup_misses : lookup st.words s p ≡ None → (side : Bool) (k : ℕ) → At st s p side k → ⊥
-  lookup_misses e side k at = ⊎_elim
-      (λ (n : slot_in st.words (group s p false) (entry_word s p false) ≡ None).
-      elim side as (λ b. At st s p b k → ⊥) [
-        | true ↦ (λ a. slot_in_misses st.words (entry_word s p true) (group s p true) k (sym (lookup_secondary st.words s p n) ∙ e) a.group a.word)
-        | false ↦ (λ a. slot_in_misses st.words (entry_word s p false) (group s p false) k n a.group a.word)
-      ] at)
-      (λ f. none_some (sym e ∙ lookup_primary st.words s p f.0 f.1))
-      (option_cases (slot_in st.words (group s p false) (entry_word s p false)))
+  lookup_misses e side k at = grind (arith, nat_tests, slot_in_misses, lookup_secondary, none_some, lookup_primary, option_cases)
 
   pub unused_finds : (k : ℕ) → unused st.words s p ≡ Some k → InGroup s p k × (first st k ≡ 0)
   unused_finds k e = ⊎_elim

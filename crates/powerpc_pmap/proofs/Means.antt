@@ -1,7 +1,8 @@
 -- Each call of the board has its meaning as a pmap call, and keeps what the board keeps.
-use Rattle.std.proofs.Common.{◌≡◌, ℕ, ◌+◌, ◌*◌, ◌<◌, Bool, true, false, cond, ◌&&◌, ◌||◌, eqb, ◌⊎◌, length, get_or, Some, None, Ok, Err, Option, Result, sym, refl, ap, ◌∙◌, subst, inl, inr, ⊎_elim, arith, lit<, MatchResult}
+use Rattle.std.proofs.lemmas.Bool.Decides.{nat_tests}
+use Rattle.std.proofs.Common.{◌≡◌, ℕ, ◌+◌, ◌*◌, ◌<◌, Bool, true, false, cond, ◌&&◌, ◌||◌, eqb, ◌⊎◌, length, get_or, Some, None, Ok, Err, Option, Result, sym, refl, ap, ◌∙◌, subst, inl, ⊎_elim, arith, lit<, MatchResult}
 use mathlib.Core.Path.{fun_ext}
-use Rattle.std.proofs.lemmas.Bool.{cases_Bool, cond-true, cond-false, and_parts, and_cases, eqb-true, ltb-true, or_cases, both_ways}
+use Rattle.std.proofs.lemmas.Bool.{cases_Bool, cond-true, cond-false, and_parts, and_cases, ltb-true, both_ways}
 use Rattle.std.proofs.lemmas.List.{length-replicate, get_or-set_same}
 use Rattle.refusal.specs.declared.pmap.PmapRefusal.{PmapRefusal}
 use Rattle.refusal.specs.declared.pmap.PmapRefusal.TheVariants.{Range, WiredFull}
@@ -15,7 +16,7 @@ use Rattle.slots.proofs.Shown.{none_some, shown_none, emptied_drops, cleaned_unm
 use Rattle.powerpc_words.specs.Fields.{frame_of, protection_of, changed, touched, lowered}
 use Rattle.powerpc_words.specs.State.{State, second, wired_at, start}
 use Rattle.powerpc_words.specs.Search.{lookup}
-use Rattle.powerpc_words.specs.Changes.{maps, reworded, removed, entered, restricted, unwired, unwired_at, accessed, dropped, unmarked, modified_in}
+use Rattle.powerpc_words.specs.Changes.{maps, reworded, removed, entered, restricted, unwired, unwired_at, accessed, dropped, unmarked}
 use Rattle.powerpc_words.specs.Answers.{holds, crowded, or_range, enter_answer, enter_leaves, remove_leaves, lower_leaves, unwire_leaves, drop_leaves, access_answer, access_leaves, find_answer, modified_answer, unmark_leaves}
 use Rattle.powerpc_words.proofs.HashLaws.{entry_above}
 use Rattle.powerpc_words.proofs.CallLaws.{restricted_none, restricted_some, unwired_none, unwired_some, accessed_none, accessed_denied, accessed_hit, answered_none, answered_denied, answered_hit, holds_some}
@@ -83,14 +84,11 @@ unmark_means st sv r f kept answer leaves =
 -- ---- modified
 pub modified_means : (st : State) (r : Result Bool PmapRefusal) (f : ℕ) → Kept st → r ≡ modified_answer st f → Tells (view_of st) f r
 unfolding view_of
-modified_means st r f kept answer =
-    (ranged st st r (fits_frame f) (modified_in st f) st (λ b x. x ≡ modified_in st f) answer (sym (same_cond (fits_frame f) st)) kept (λ t. (refl, kept))).0
+modified_means st r f kept answer = grind (arith, nat_tests, ranged, same_cond)
 
 -- ---- find
 pub find_means : (st : State) (r : Result (Option Mapping) PmapRefusal) (s p : ℕ) → Kept st → r ≡ find_answer st s p → Finds (view_of st) s p r
-find_means st r s p kept answer =
-    (ranged st st r (fits_place s p) (holds st s p) st (λ b x. x ≡ (view_of st).held s p) answer (sym (same_cond (fits_place s p) st)) kept
-    (λ t. let fits = fits_place_is s p t in (sym (held_holds st kept s p fits.0 fits.1), kept))).0
+find_means st r s p kept answer = grind (arith, nat_tests, ranged, same_cond, fits_place_is, held_holds)
 
 -- ---- lower, unwire and access: the slot of the place is rewritten
 module _ (st : State) (kept : Kept st) (s p : ℕ) (s_fits : s < 4) (p_fits : p < 262144) (k : ℕ) (found : lookup st.words s p ≡ Some k) where
@@ -125,7 +123,7 @@ module _ (st : State) (kept : Kept st) (s p : ℕ) (s_fits : s < 4) (p_fits : p 
 
   -- the second word after a change
   second_is : (b : ℕ) → second (reworded st k b) k ≡ b
-  second_is b = get_or-set_same st.words (2 * k + 1) b 0 (omega (arith, at.below, kept.words))
+  second_is b = grind (arith, nat_tests, get_or-set_same, at)
 
   lower_at : Put (view_of st) (view_of (reworded st k (lowered (second st k)))) s p (lowered_mapping ((view_of st).held s p)) × Kept (reworded st k (lowered (second st k)))
   lower_at =
@@ -253,7 +251,7 @@ access_means st sv r s p write kept answer leaves =
 
 -- ---- enter
 protection_cases : (q : ℕ) → fits_protection q ≡ true → (q ≡ 1) ⊎ (q ≡ 3)
-protection_cases q t = ⊎_elim (λ e. inl (eqb-true q 1 e)) (λ e. inr (eqb-true q 3 e)) (or_cases (eqb q 1) (eqb q 3) t)
+protection_cases q t = grind (arith, nat_tests)
 
 pub enter_means : (st sv : State) (r : Result (Unit {0}) PmapRefusal) (s p f q : ℕ) (w : Bool) → Kept st → r ≡ enter_answer st s p f q w → sv ≡ enter_leaves st s p f q w → Enters (view_of st) (view_of sv) s p f q w r × Kept sv
 enter_means st sv r s p f q w kept answer leaves = ⊎_elim

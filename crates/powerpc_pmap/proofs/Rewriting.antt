@@ -1,4 +1,5 @@
 -- The second word or the wired mark of a slot changes, its place and frame stay.
+use Rattle.std.proofs.lemmas.Bool.Decides.{nat_tests}
 use Rattle.std.proofs.Common.{◌≡◌, ℕ, ◌+◌, ◌*◌, ◌<◌, Bool, true, false, cond, eqb, Some, sym, refl, ap, ◌∙◌, subst, ⊎_elim, arith}
 use Rattle.std.proofs.lemmas.Bool.{cases_eq, cond-true, cond-false, eq-eqb, ne_eqb, both_ways}
 use Rattle.std.proofs.lemmas.List.{get_or-set_same, get_or-set_other, length-set}
@@ -21,10 +22,10 @@ module _ (st : State) (kept : Kept st) (s p : ℕ) (side : Bool) (k : ℕ) (at :
     word_first j = get_or-set_other st.words (2 * k + 1) (2 * j) b 0 (λ e. omega arith)
 
     word_here : second (reworded st k b) k ≡ b
-    word_here = get_or-set_same st.words (2 * k + 1) b 0 (omega (arith, at.below, kept.words))
+    word_here = grind (arith, nat_tests, get_or-set_same)
 
     word_there : (j : ℕ) → (j ≡ k → ⊥) → second (reworded st k b) j ≡ second st j
-    word_there j far = get_or-set_other st.words (2 * k + 1) (2 * j + 1) b 0 (λ e. far (omega arith))
+    word_there j far = grind (arith, nat_tests, get_or-set_other)
 
     pub reworded_keeps : (Shaped (second st k) → Shaped b) → Kept (reworded st k b)
     reworded_keeps shape = kept_tame st (reworded st k b) kept
@@ -51,7 +52,7 @@ module _ (st : State) (kept : Kept st) (s p : ℕ) (side : Bool) (k : ℕ) (at :
 
   -- ---- the wired mark
   off_here : wired_at (unwired_at st (Some k)) k ≡ false
-  off_here = get_or-set_same st.wired k false false (omega (arith, at.below, kept.wired))
+  off_here = grind (arith, nat_tests, get_or-set_same)
 
   off_there : (j : ℕ) → (j ≡ k → ⊥) → wired_at (unwired_at st (Some k)) j ≡ wired_at st j
   off_there j far = get_or-set_other st.wired k j false false far
@@ -65,16 +66,4 @@ module _ (st : State) (kept : Kept st) (s p : ℕ) (side : Bool) (k : ℕ) (at :
       refl refl (length-set st.wired k false) kept.next
 
   pub unwired_table : Rewritten (table st) (table (unwired_at st (Some k))) k (entry_at st k) (entry_at (unwired_at st (Some k)) k)
-  unwired_table = record {
-    was = at_used st k s p side at;
-    slots = λ j. ⊎_elim
-        (λ (q : j ≡ k). (subst (λ x. slot_at (unwired_at st (Some k)) x ≡ cond (eqb x k) (Some (entry_at (unwired_at st (Some k)) k)) (slot_at st x)) (sym q)
-        (slot_used (unwired_at st (Some k)) k at.below above ∙ sym (cond-true _ _ _ (eq-eqb k k refl)))))
-        (λ (q : j ≡ k → ⊥). slot_same st (unwired_at st (Some k)) j refl refl (off_there j q) ∙ sym (cond-false _ _ _ (ne_eqb j k q)))
-        (cases_eq j k);
-    space = refl;
-    page = refl;
-    frame = refl;
-    stays = λ t. t;
-    marks = λ f. refl;
-  }
+  unwired_table = grind (arith, nat_tests, at_used, slot_used, above, slot_same, off_there)

@@ -1,6 +1,7 @@
 -- The view of a board shows the slots that its words spell.
-use Rattle.std.proofs.Common.{◌≡◌, ℕ, ◌<◌, Bool, true, false, eqb, ltb, get_or, Some, None, sym, ap, ◌∙◌, subst, inl, inr, ⊎_elim}
-use Rattle.std.proofs.lemmas.Bool.{cases_Bool, cond-true, cond-false, and_from, and_parts, lt-ltb, ltb-true, eq-eqb, eqb-true, or_cases, or_left, or_right}
+use Rattle.std.proofs.lemmas.Bool.Decides.{nat_tests}
+use Rattle.std.proofs.Common.{arith, ◌≡◌, ℕ, ◌<◌, Bool, true, false, get_or, Some, None, sym, ap, ◌∙◌, subst, inl, inr, ⊎_elim}
+use Rattle.std.proofs.lemmas.Bool.{cases_Bool, cond-true, cond-false, and_from, lt-ltb, eq-eqb, or_cases, or_left, or_right}
 use Rattle.pmap.specs.Meaning.{Mapping}
 use Rattle.pmap.specs.Ranges.{fits_place}
 use Rattle.slots.specs.Slots.{Single, Held, Shows, mapping_of}
@@ -20,7 +21,7 @@ pub place_fits : (s p : ℕ) → s < 4 → p < 262144 → fits_place s p ≡ tru
 place_fits s p a b = and_from _ _ (lt-ltb s 4 a) (lt-ltb p 262144 b)
 
 pub fits_place_is : (s p : ℕ) → fits_place s p ≡ true → (s < 4) × (p < 262144)
-fits_place_is s p e = let parts = and_parts (ltb s 4) (ltb p 262144) e in (ltb-true s 4 parts.0, ltb-true p 262144 parts.1)
+fits_place_is s p e = grind (arith, nat_tests)
 
 -- a slot that maps a frame with C on, by the slot's entry
 pub dirty_slot : (st : State) (k f : ℕ) → 0 < first st k → frame_of (second st k) ≡ f → changed (second st k) ≡ true → dirty_at st.words f k ≡ true
@@ -29,16 +30,12 @@ dirty_slot st k f h e c = and_from _ _ (and_from _ _ (lt-ltb _ _ h) (eq-eqb _ _ 
 
 pub slot_dirty : (st : State) (k f : ℕ) → dirty_at st.words f k ≡ true → (0 < first st k) × (frame_of (second st k) ≡ f) × (changed (second st k) ≡ true)
 unfolding dirty_at maps
-slot_dirty st k f e =
-    let both = and_parts (maps st.words f k) (changed (second st k)) e in
-    let mapped = and_parts (ltb 0 (first st k)) (eqb (frame_of (second st k)) f) both.0 in
-    (ltb-true _ _ mapped.0, eqb-true _ _ mapped.1, both.1)
+slot_dirty st k f e = grind (arith, nat_tests)
 
 module _ (st : State) (kept : Kept st) where
   -- the hardware's lookup finds just what the slots hold
   at_held : (s p : ℕ) (side : Bool) (k : ℕ) → At st s p side k → held_at st s p ≡ Some (mapping_of (entry_at st k))
-  at_held s p side k at =
-      cond-true _ _ _ (place_fits s p at.space at.page) ∙ holds_some st s p k (lookup_at st s p at.space at.page kept side k at)
+  at_held s p side k at = grind (arith, nat_tests, place_fits, holds_some, lookup_at)
 
   pub shows : Shows (table st) (view_of st)
   unfolding view_of modified_in
@@ -77,12 +74,4 @@ module _ (st : State) (kept : Kept st) where
           (cases_Bool (fits_place a b))
 
   pub single : Single (table st)
-  single j k d e p q x y =
-      let u = some_used st j kept d p in
-      let v = some_used st k kept e q in
-      let du = (slot_some st j d p).2 in
-      let ev = (slot_some st k e q).2 in
-      let s_same : u.space ≡ v.space = sym (at_space st j u.space u.page u.side u.at) ∙ ap (λ z. z.space) du ∙ x ∙ sym (ap (λ z. z.space) ev) ∙ at_space st k v.space v.page v.side v.at in
-      let p_same : u.page ≡ v.page = sym (at_page st j u.space u.page u.side u.at) ∙ ap (λ z. z.page) du ∙ y ∙ sym (ap (λ z. z.page) ev) ∙ at_page st k v.space v.page v.side v.at in
-      kept.single v.space v.page u.side v.side j k
-      (subst (λ b. At st v.space b u.side j) p_same (subst (λ a. At st a u.page u.side j) s_same u.at)) v.at
+  single j k d e p q x y = grind (arith, nat_tests, some_used, slot_some, at_space, at_page)

@@ -1,5 +1,6 @@
 -- The hardware's lookup on the words and the view agree.
-use Rattle.std.proofs.Common.{◌≡◌, ℕ, true, false, Some, None, Ok, Err, Option, Result, sym, refl, ap, ◌∙◌}
+use Rattle.std.proofs.lemmas.Bool.Decides.{nat_tests}
+use Rattle.std.proofs.Common.{arith, ◌≡◌, ℕ, Some, None, Ok, Err, Option, Result, sym, refl, ap, ◌∙◌}
 use Rattle.std.proofs.lemmas.Bool.{cond-true}
 use Rattle.refusal.specs.declared.pmap.PmapRefusal.{PmapRefusal}
 use Rattle.pmap.specs.Meaning.{Mapping}
@@ -28,5 +29,4 @@ right_answer (Ok o) = Ok (right_of o)
 right_answer (Err e) = Err e
 
 pub right_answer_is : (st : State) (s p : ℕ) → right_answer (find_answer st s p) ≡ or_range (fits_place s p) (translated st.words s p)
-right_answer_is st s p = elim (fits_place s p) as (λ t. right_answer (or_range t (holds st s p)) ≡ or_range t (translated st.words s p))
-    [ true ↦ ap Ok (sym (translated_holds st s p)) | false ↦ refl ]
+right_answer_is st s p = grind (arith, nat_tests, translated_holds)

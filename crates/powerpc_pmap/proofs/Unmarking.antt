@@ -1,9 +1,10 @@
 -- The mark of a frame and the C bits of its slots go off.
-use Rattle.std.proofs.Common.{◌≡◌, ℕ, ◌+◌, ◌*◌, ◌/◌, ◌%◌, ◌<◌, ◌≤◌, Bool, true, false, cond, ◌&&◌, eqb, ltb, length, get_or, Some, sym, refl, ap, ◌∙◌, subst, ⊎_elim, arith}
-use Rattle.std.proofs.lemmas.Bool.{cases_Bool, cases_lt, cond-true, cond-false, eq-eqb, ne_eqb, and_parts, and_right, ltb-true}
+use Rattle.std.proofs.lemmas.Bool.Decides.{nat_tests}
+use Rattle.std.proofs.Common.{◌≡◌, ℕ, ◌+◌, ◌*◌, ◌/◌, ◌%◌, ◌<◌, Bool, true, false, cond, ◌&&◌, eqb, length, get_or, sym, refl, ap, ◌∙◌, subst, ⊎_elim, arith}
+use Rattle.std.proofs.lemmas.Bool.{cases_Bool, cond-true, cond-false, eq-eqb, ne_eqb, and_right}
 use Rattle.std.proofs.lemmas.List.FromFn.{length-map-range_with_len, get_or-map-range_with_len}
 use Rattle.std.proofs.lemmas.List.{get_or-set_same, get_or-set_other, length-set}
-use Rattle.slots.specs.Changes.{Cleaned, clean_entry, cleaned as cleaned_slot}
+use Rattle.slots.specs.Changes.{Cleaned, clean_entry}
 use Rattle.powerpc_words.specs.Fields.{frame_of, protection_of, changed, cleaned}
 use Rattle.powerpc_words.specs.State.{State, first, second, wired_at}
 use Rattle.powerpc_words.specs.Changes.{maps, clean_word, unmarked}
@@ -16,7 +17,7 @@ use Rattle.powerpc_pmap.proofs.Dropping.{used_maps}
 
 maps_above : (st : State) (k f : ℕ) → maps st.words f k ≡ true → 0 < first st k
 unfolding maps
-maps_above st k f t = ltb-true _ _ (and_parts (ltb 0 (first st k)) (eqb (frame_of (second st k)) f) t).0
+maps_above st k f t = grind (arith, nat_tests)
 
 module _ (st : State) (kept : Kept st) (f : ℕ) where
   clean_first : (k : ℕ) → k < 8192 → first (unmarked st f) k ≡ first st k
@@ -54,22 +55,10 @@ module _ (st : State) (kept : Kept st) (f : ℕ) where
   -- an entry by its parts
   entry_is : (k w : ℕ) → k < 8192 → second (unmarked st f) k ≡ w → entry_at (unmarked st f) k ≡
       record { space = space_in (first st k); page = page_in k (first st k); frame = frame_of w; protection = protection_of w; wired = wired_at st k; dirty = changed w }
-  entry_is k w b e =
-      ap (λ x. record { space = space_in x; page = page_in k x; frame = frame_of (second (unmarked st f) k); protection = protection_of (second (unmarked st f) k); wired = wired_at (unmarked st f) k; dirty = changed (second (unmarked st f) k) }) (clean_first k b)
-      ∙ ap (λ x. record { space = space_in (first st k); page = page_in k (first st k); frame = frame_of x; protection = protection_of x; wired = wired_at (unmarked st f) k; dirty = changed x }) e
-      ∙ ap (λ x. record { space = space_in (first st k); page = page_in k (first st k); frame = frame_of w; protection = protection_of w; wired = x; dirty = changed w }) (clean_wired k)
+  entry_is k w b e = grind (arith, nat_tests, clean_first, clean_wired)
 
   clean_entry_is : (k : ℕ) → k < 8192 → 0 < first st k → entry_at (unmarked st f) k ≡ cond (eqb (frame_of (second st k)) f) (clean_entry (entry_at st k)) (entry_at st k)
-  clean_entry_is k b h = ⊎_elim
-      (λ (t : eqb (frame_of (second st k)) f ≡ true).
-      entry_is k (cleaned (second st k)) b (clean_second k b ∙ cond-true _ _ _ (used_maps st k f h ∙ t))
-      ∙ ap (λ x. record { space = space_in (first st k); page = page_in k (first st k); frame = x; protection = protection_of (cleaned (second st k)); wired = wired_at st k; dirty = changed (cleaned (second st k)) }) (cleaned_frame (second st k))
-      ∙ ap (λ x. record { space = space_in (first st k); page = page_in k (first st k); frame = frame_of (second st k); protection = x; wired = wired_at st k; dirty = changed (cleaned (second st k)) }) (cleaned_protection (second st k))
-      ∙ ap (λ x. record { space = space_in (first st k); page = page_in k (first st k); frame = frame_of (second st k); protection = protection_of (second st k); wired = wired_at st k; dirty = x }) (cleaned_changed (second st k))
-      ∙ sym (cond-true _ _ _ t))
-      (λ (t : eqb (frame_of (second st k)) f ≡ false).
-      entry_is k (second st k) b (clean_second k b ∙ cond-false _ _ _ (used_maps st k f h ∙ t)) ∙ sym (cond-false _ _ _ t))
-      (cases_Bool (eqb (frame_of (second st k)) f))
+  clean_entry_is k b h = grind (arith, nat_tests, entry_is, clean_second, used_maps, cleaned_frame, cleaned_protection, cleaned_changed)
 
   mark_off : f < length st.marks → get_or (unmarked st f).marks f false ≡ false
   unfolding unmarked
@@ -80,17 +69,4 @@ module _ (st : State) (kept : Kept st) (f : ℕ) where
   mark_there g far = get_or-set_other st.marks f g false false far
 
   pub unmarked_table : f < 256 → Cleaned (table st) (table (unmarked st f)) f
-  unmarked_table fits = record {
-    slots = λ k. ⊎_elim
-        (λ (b : k < 8192). ⊎_elim
-        (λ (h : 0 < first st k).
-        slot_used (unmarked st f) k b (subst (λ x. 0 < x) (sym (clean_first k b)) h) ∙ ap Some (clean_entry_is k b h) ∙ sym (ap (cleaned_slot f) (slot_used st k b h)))
-        (λ (h : first st k ≤ 0).
-        let z : first st k ≡ 0 = omega (arith, h) in
-        slot_unused (unmarked st f) k (clean_first k b ∙ z) ∙ sym (ap (cleaned_slot f) (slot_unused st k z)))
-        (cases_lt 0 (first st k)))
-        (λ (b : 8192 ≤ k). slot_past (unmarked st f) k b ∙ sym (ap (cleaned_slot f) (slot_past st k b)))
-        (cases_lt k 8192);
-    off = mark_off (subst (λ x. f < x) (sym kept.marks) fits);
-    others = mark_there;
-  }
+  unmarked_table fits = grind (arith, nat_tests, slot_used, clean_first, clean_entry_is, slot_unused, slot_past, mark_off, mark_there)
