@@ -113,9 +113,7 @@ pub fn store_pages<P: Pmap>(
 {
     let mut stored: u32 = 0;
     for (x, page) in records.iter().enumerate() {
-        if store_page(x, *page, object, pmap, words, store)? {
-            stored += 1;
-        }
+        stored += u32::from(store_page(x, *page, object, pmap, words, store)?);
     }
     Ok(stored)
 }

@@ -1,7 +1,6 @@
-use Rattle.std.proofs.Common.{◌≡◌, ℕ, ◌+◌, ◌≤◌, Bool, cond, sym, ap, ◌∙◌, add-zero, arith}
+use Rattle.std.proofs.Common.{◌≡◌, ℕ, ◌+◌, ◌≤◌, Bool, cond, ap, arith, rules}
 use Rattle.memory_meaning.proofs.StoredPages.{stores_none, stores_more}
 use Rattle.memory_meaning.proofs.pages.store_pages.Goals as goal
-use Rattle.memory_meaning.proofs.pages.store_pages.Goals.{then-branch, else-branch}
 
 pub loop-x-init : goal.loop-x-init
 loop-x-init g c =
@@ -16,11 +15,8 @@ loop-x-preserved g c =
     let step = stores_more (v c.args.pmap.now) c.args.store.now c.args.words.now c.args.records.now c.args.object c.requires.1.1.1.1
     (v c.loop-x.pmap) (v c.store_page.new.pmap) c.loop-x.store c.store_page.new.store c.loop-x.x c.loop-x.stored c.loop-x.invariant.1
     c.in_ok-store_page.field-0 c.in_ok-store_page.ensures.stores (omega arith) in
-    let same : c.if-branch.stored ≡ c.loop-x.stored + cond c.in_ok-store_page.field-0 1 0 =
-    elim c.if-branch.branch [
-      | then-branch w ↦ w.stored-is ∙ ap (λ z. c.loop-x.stored + cond z 1 0) (sym w.if-branch.true)
-      | else-branch w ↦ w.stored-is ∙ sym (add-zero c.loop-x.stored) ∙ ap (λ z. c.loop-x.stored + cond z 1 0) (sym w.if-branch.false)
-    ] in (
+    let one : c.from.result ≡ cond c.in_ok-store_page.field-0 1 0 = search rules in
+    let same = ap (λ z. c.loop-x.stored + z) one in (
       c.in_ok-store_page.ensures.kept,
       rw same step,
       rw same (at_most c.loop-x.stored c.loop-x.x c.in_ok-store_page.field-0 c.loop-x.invariant.2),
