@@ -64,7 +64,10 @@ fn check_written(rt: &HostRuntime, machine: Machine) -> anyhow::Result<bool> {
         "  written, crowded by 24 places, read back: {}",
         way_of(rt, crowded)?
     )?;
-    println!(rt; "  pushed out by two pages, read back: {}", way_of(rt, evicted)?)?;
+    println!(rt;
+        "  pushed out by two pages, read back: {}",
+        way_of(rt, evicted)?
+    )?;
     println!(rt; "  both times the word that was written: {kept}")?;
     Ok(kept)
 }
@@ -74,7 +77,10 @@ fn check_wired(rt: &HostRuntime, machine: Machine) -> anyhow::Result<bool> {
     let seen = seen(rt, machine, &wired_and_crowded(rt.alloc())?)?;
     let read = from_end(&seen, 1);
     let write = from_end(&seen, 0);
-    println!(rt; "  wired, crowded by 24 places, read: {}", way_of(rt, read)?)?;
+    println!(rt;
+        "  wired, crowded by 24 places, read: {}",
+        way_of(rt, read)?
+    )?;
     println!(rt; "  and written: {}", way_of(rt, write)?)?;
     Ok(is_hit(read) && is_hit(write))
 }
