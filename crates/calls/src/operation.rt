@@ -6,16 +6,17 @@ ghost use Rattle.calls.specs.Operations.{number_of, name_of, operation_named, Nu
 use crate::Call;
 use std::fmt;
 
+// Each has the number that a trace gives it.
 #[derive(Clone, Copy, PartialEq, Eq, Debug)]
 pub enum Operation {
-    Map,
-    Unmap,
-    Protect,
-    Read,
-    Write,
-    Wire,
-    Unwire,
-    Sync,
+    Map = 1,
+    Unmap = 2,
+    Protect = 3,
+    Read = 4,
+    Write = 5,
+    Wire = 6,
+    Unwire = 7,
+    Sync = 8,
 }
 
 // A value for each field that a call can have; zero where it has none.
@@ -38,16 +39,7 @@ impl Operation {
     pub fn number(self) -> u8
         ensures { result ≡ number_of self }
     {
-        match self {
-            Operation::Map => 1,
-            Operation::Unmap => 2,
-            Operation::Protect => 3,
-            Operation::Read => 4,
-            Operation::Write => 5,
-            Operation::Wire => 6,
-            Operation::Unwire => 7,
-            Operation::Sync => 8,
-        }
+        self as u8
     }
 
     pub fn name(self) -> &'static str

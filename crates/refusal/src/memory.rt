@@ -35,6 +35,7 @@ pub enum MemoryRefusal {
 impl Refusal for MemoryRefusal {
     ghost known = { memory_code };
 
+    // The numbers stand here and not at the variants, since one variant has a value of its own.
     fn code(&self) -> Code {
         let number = match self {
             MemoryRefusal::CallLimit => 5,
