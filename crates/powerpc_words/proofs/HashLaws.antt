@@ -1,7 +1,7 @@
 -- Laws of the hash: proofs cite these, and not the definitions' text. The law of VSID stands here alone.
-use Rattle.std.proofs.Common.{◌≡◌, ℕ, ◌+◌, ◌-◌, ◌*◌, ◌/◌, ◌%◌, ◌<◌, Bool, true, false, cond, eqb, sym, ap, ◌∙◌, arith, lit<}
+use Rattle.std.proofs.lemmas.Bool.Decides.{nat_tests}
+use Rattle.std.proofs.Common.{◌≡◌, ℕ, ◌+◌, ◌-◌, ◌*◌, ◌/◌, ◌%◌, ◌<◌, Bool, true, false, cond, eqb, sym, ap, ◌∙◌, arith}
 use lib.Bits.{bit_xor, bit_and, and_mask, xor_mod, xor_assoc, xor_comm, xor_self, xor_zero_r}
-use Rattle.std.proofs.lemmas.Bool.{eq-eqb, ne_eqb, cond-true, cond-false}
 use Rattle.powerpc_words.specs.Fields.{first_word}
 use Rattle.powerpc_words.specs.Hashing.{vsid, segment_of, index_of, hash, group, entry_word}
 
@@ -93,7 +93,7 @@ module _ (space page : ℕ) (side : Bool) (s_fits : space < 4) (p_fits : page < 
   a = index_of page / 1024
 
   h_fits : h < 2
-  h_fits = elim side as (λ b. cond b 1 0 < 2) [ true ↦ lit< tt | false ↦ lit< tt ]
+  h_fits = grind (arith, nat_tests)
 
   a_fits : a < 64
   a_fits = omega arith
@@ -103,21 +103,12 @@ module _ (space page : ℕ) (side : Bool) (s_fits : space < 4) (p_fits : page < 
 
   pub entry_space : space_in (entry_word space page side) ≡ space
   unfolding space_in entry_word
-  entry_space = ap vsid_space (vsid_field v h a v_fits h_fits a_fits) ∙ vsid_space_is space (segment_of page) s_fits (omega arith)
+  entry_space = grind (arith, nat_tests, vsid_field, v_fits, h_fits, a_fits, vsid_space_is)
 
   entry_hash : (k : ℕ) → k / 8 ≡ group space page side → hash_in k (entry_word space page side) ≡ hash space page
   unfolding entry_word group
-  entry_hash k e = elim side as (λ b. k / 8 ≡ group space page b → hash_in k (first_word v (cond b 1 0) a) ≡ hash space page) [
-    | true ↦ (λ g. cond-true _ _ _ (eq-eqb _ _ (side_field v 1 a v_fits (lit< tt) a_fits)) ∙ omega (arith, hash_below space page))
-    | false ↦ (λ g. cond-false _ _ _ (ne_eqb _ _ (λ (q : first_word v 0 a / 64 % 2 ≡ 1). omega (arith, q, side_field v 0 a v_fits (lit< tt) a_fits))) ∙ g)
-  ] e
+  entry_hash k e = grind (arith, nat_tests, side_field, v_fits, a_fits, hash_below)
 
   pub entry_page : (k : ℕ) → k / 8 ≡ group space page side → page_in k (entry_word space page side) ≡ page
   unfolding page_in entry_word hash
-  entry_page k e =
-      let w = first_word v h a in
-      let low : bit_xor (hash_in k w) (vsid_in w) % 1024 ≡ index_of page % 1024 =
-      ap (λ x. bit_xor x (vsid_in w) % 1024) (entry_hash k e) ∙ ap (λ x. bit_xor (bit_xor v (index_of page) % 1024) x % 1024) (vsid_field v h a v_fits h_fits a_fits) ∙ unhash v (index_of page) in
-      let top : vsid_segment (vsid_in w) ≡ segment_of page =
-      ap vsid_segment (vsid_field v h a v_fits h_fits a_fits) ∙ vsid_segment_is space (segment_of page) s_fits (omega arith) in
-      omega (arith, low, top, api_field v h a v_fits h_fits a_fits)
+  entry_page k e = grind (arith, nat_tests, entry_hash, vsid_field, v_fits, h_fits, a_fits, unhash, vsid_segment_is, api_field)

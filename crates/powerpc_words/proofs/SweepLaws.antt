@@ -2,8 +2,8 @@
 use Rattle.std.proofs.Common.{◌≡◌, ℕ, ◌+◌, ◌*◌, ◌/◌, ◌%◌, ◌<◌, ◌≤◌, Bool, true, false, cond, ◌&&◌, ◌||◌, eqb, ltb, List, map, length, get_or, set, Decides, sym, refl, ap, ◌∙◌, subst, zero, suc, zero-add, ⊎_elim, add-one, arith}
 use Rattle.std.specs.Bool.{MatchBool}
 use Rattle.std.specs.List.{range_with_len, filter, count_by, HoldsAt, AllWithin}
-use Rattle.std.proofs.lemmas.Bool.{eq-eqb, ne_eqb, cond-true, cond-false, cond_both, cases_eq, cases_Bool, and_parts, eqb-true, or_left, or_right}
-use Rattle.std.proofs.lemmas.Bool.Decides.{Decides-below_or}
+use Rattle.std.proofs.lemmas.Bool.{eq-eqb, ne_eqb, cond-true, cond-false, cond_both, cases_eq, cases_Bool, and_parts, eqb-true, or_left}
+use Rattle.std.proofs.lemmas.Bool.Decides.{Decides-below_or, nat_tests}
 use Rattle.std.proofs.lemmas.List.FromFn.{fill_by_all, length-map-range_with_len, get_or-map-range_with_len, sum_by-map-range_with_len_more}
 use Rattle.std.proofs.lemmas.List.Sums.{length-filter}
 use Rattle.std.proofs.lemmas.List.{get_or-set_same, get_or-set_other, length-set, set-get_or, set-set}
@@ -110,7 +110,7 @@ module _ (st : State) (f : ℕ) where
 
   pub modified_slot : (k : ℕ) → k < 8192 → dirty_at st.words f k ≡ true → true ≡ modified_in st f
   unfolding modified_in
-  modified_slot k b e = sym (or_right (get_or st.marks f false) _ ((any_dirty_decides st.words f 8192).1 (k, b, e)))
+  modified_slot k b e = grind (arith, nat_tests, any_dirty_decides st.words f 8192)
 
 -- ---- drop
 pub record Dropping (st : State) (f i : ℕ) (sv : State) : Type 0 where
