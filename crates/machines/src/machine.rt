@@ -21,7 +21,7 @@ use x86_pmap::meaning::X86;
 // how far the pile's pages are shifted
 const SHIFT: u32 = 3;
 
-// A board of the words that it wants is refused for want of memory alone.
+// A board of the words that it wants is not made for want of memory alone, and `NotMade` has no `AllocError` in it.
 pub(crate) fn x86(heap: Global) -> Result<Noted<X86>, AllocError> {
     let board = X86::new(heap, vec![in heap; 0; x86::board::WORDS]?).map_err(|_| AllocError)?;
     Ok(Noted::new(board))

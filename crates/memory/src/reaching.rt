@@ -55,6 +55,7 @@ impl<P: Pmap> Parts<P> {
         ensures reaches { MatchResult result (λ x. (access_refusal (state P.view self.old) space page write ≡ None) × Reaching P.view self.old self.new space page write x) (λ e. (access_refusal (state P.view self.old) space page write ≡ Some e) × Still P.view self.old self.new) }
         ensures kept { P.kept self.new.pmap }
     {
+        // no `Place::new` with a `?`, which would give the pmap's refusal
         if !fits_place(space, page) {
             return Err(MemoryRefusal::Range);
         }

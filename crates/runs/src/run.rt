@@ -28,6 +28,7 @@ fn drive<P: Pmap>(memory: &mut Memory<P>, calls: &[Call], replies: &mut Vec<Repl
     requires room { length calls.now ≤ vec_capacity replies.old }
     ensures { Trail frames calls.now replies.new.items (state P.view memory.new) }
 {
+    // no `collect`: it would ask for memory once the calls have begun
     for call in calls {
         let reply = memory.call(*call);
         replies.push_reserved(reply);
