@@ -1,5 +1,5 @@
 use Rattle.std.proofs.Common.{refl}
-use Rattle.x86_words.specs.Words.{leaf_word, touched as accessed, dirtied}
+use Rattle.x86_words.specs.Words.{leaf_word, put_on}
 use Rattle.powerpc_words.specs.Fields.{touched}
 use Rattle.powerpc_words.specs.Hashing.{vsid, hash, group, entry_word}
 use Rattle.trace.specs.Format.{encoded, content_at}
@@ -10,7 +10,7 @@ use Rattle.cases.proofs.worked_cases_hold.Goals as goal
 
 -- each case computes
 cases : WorkedCases
-unfolding leaf_word accessed dirtied touched vsid hash group entry_word encoded content_at numbers wires first any without changed no_pages no_frames starting_words
+unfolding leaf_word put_on touched vsid hash group entry_word encoded content_at numbers wires first any without changed no_pages no_frames starting_words
 cases = (refl, refl, refl, refl, refl, refl, refl, refl, refl, refl, refl, refl, refl, refl, refl, refl, refl, refl, refl, refl, refl, refl, refl)
 
 pub returns : goal.returns
