@@ -52,6 +52,7 @@ impl Board for Hashed {
     }
 }
 
+// Each board is made of words of its own size and type, so that this stands once for each.
 pub fn show(rt: &HostRuntime, request: Request) -> Result<Outcome, Stop> {
     let heap = rt.alloc();
     let Ok(mut board) = Hashed::new(heap, vec![in heap; 0; WORDS]?) else {

@@ -8,10 +8,11 @@ use slots::word::word_or;
 use std::alloc::Global;
 use x86::board::WORDS;
 use x86_pmap::meaning::X86;
+use x86_words::leaves::TABLE;
 use x86_words::walk::{linear_page, walk_tables};
 
-// The pages that a directory word covers.
-const COVER: u32 = 512;
+// The pages that a directory word covers: one for each word of a leaf.
+const COVER: u32 = TABLE as u32;
 
 impl Board for X86 {
     fn crowd_name() -> &'static str {
@@ -33,9 +34,9 @@ impl Board for X86 {
             println!(rt; "x86-64: no leaf")?;
             return Ok(());
         };
-        let directory = walk.directory % 512;
-        let leaf = walk.leaf % 512;
-        let table = walk.leaf / 512;
+        let directory = walk.directory % TABLE;
+        let leaf = walk.leaf % TABLE;
+        let table = walk.leaf / TABLE;
         println!(rt; "x86-64: directory index {directory}, leaf index {leaf} in table {table}")?;
         Ok(())
     }
@@ -58,6 +59,7 @@ impl Board for X86 {
     }
 }
 
+// Each board is made of words of its own size and type, so that this stands once for each.
 pub fn show(rt: &HostRuntime, request: Request) -> Result<Outcome, Stop> {
     let heap = rt.alloc();
     let Ok(mut board) = X86::new(heap, vec![in heap; 0; WORDS]?) else {

@@ -4,11 +4,9 @@
 
 use std::io;
 use std::io::Read;
+use trace::reader::ENOUGH;
 
 mod text;
-
-// One byte more than a trace may have: that many decide whether the file is too long.
-const ENOUGH: u64 = 65_535;
 
 fn main(rt: HostRuntime) -> io::Result<()> {
     let heap = rt.alloc();

@@ -43,6 +43,7 @@ pub(crate) fn pile(heap: Global) -> Result<Offset<Replica<Noted<X86>, Noted<Hash
     Ok(shifted)
 }
 
+// An enum and no closure that makes the pmap: each machine's pmap has a type of its own.
 #[derive(Clone, Copy, PartialEq, Eq, Debug)]
 pub enum Machine {
     X86,

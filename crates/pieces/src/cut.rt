@@ -1,10 +1,11 @@
 // The pieces of a text, handed out one after another.
-ghost use Rattle.std.specs.Prelude.{◌≡◌, ◌+◌, ◌^◌, ◌<◌, ◌≤◌, ◌∷◌, length, drop, IfSome, MatchOption};
+ghost use Rattle.std.specs.Prelude.{◌≡◌, ◌+◌, ◌^◌, ◌<◌, ◌≤◌, ◌∷◌, length, drop, position, IfSome, MatchOption};
 ghost use Rattle.std.specs.Option.{option_map};
 ghost use Rattle.std.specs.List.{between};
 ghost use Rattle.pieces.specs.Cuts.{cuts, pieces, pieces_at, words_at, begun};
 
 // Where a text is cut: at newlines into lines, or at blanks into words.
+// An enum and no closure, since one text is cut both ways and the definitions have these two cases.
 #[derive(Clone, Copy, PartialEq, Eq, Debug)]
 pub enum Cut {
     Lines,
@@ -24,10 +25,18 @@ impl Cut {
 }
 
 // A text, and the place where its next piece begins: past its end when there is none left.
+// The whole text is kept and not what is left of it: a text that ends at a cut has one more piece, an empty one.
 #[derive(Clone, Copy)]
 pub struct Pieces<'a> {
     pub text: &'a [u8],
     pub at: usize,
+}
+
+// Where a text is cut first.
+fn first_cut(text: &[u8], cut: Cut) -> Option<usize>
+    ensures { result ≡ position (cuts cut) text.now }
+{
+    text.iter().position(|byte| cut.at(*byte))
 }
 
 // Where the piece that begins at a place ends.
@@ -37,11 +46,8 @@ fn piece_end(text: &[u8], at: usize, cut: Cut) -> usize
     ensures within { result ≤ length text.now }
     ensures split { pieces cut (drop at text.now) ≡ between at result text.now ∷ pieces_at cut text.now (result + 1) }
 {
-    let mut end = at;
-    while end < text.len() && !cut.at(text[end]) {
-        end += 1;
-    }
-    end
+    let rest = &text[at..];
+    at + first_cut(rest, cut).unwrap_or(rest.len())
 }
 
 impl<'a> Pieces<'a> {

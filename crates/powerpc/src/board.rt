@@ -7,6 +7,7 @@ pub use powerpc_words::slot::SLOTS;
 pub const WORDS: usize = 16_384;
 
 // The table words, a modified mark for each frame, a wired mark for each slot, and the counter of slots to forget.
+// The wired marks stand in a list of their own, since the board's rules put them beside the table.
 #[derive(Drop)]
 pub struct Board {
     pub(crate) words: Vec<u32>,

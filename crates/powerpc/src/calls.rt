@@ -15,6 +15,7 @@ use powerpc_words::fields::protection_of;
 use powerpc_words::slot::Slot;
 use refusal::pmap::PmapRefusal;
 
+// The public calls check their numbers and go on: two lines each, which one function over a closure would not shorten.
 impl Board {
     // Whether a slot other than the given one is wired.
     #[tactic(auto, unfolding(powerpc_words::specs::Answers::wired_beside))]

@@ -46,6 +46,7 @@ impl Board {
         }
     }
 
+    // A `for` with a call: of a closure that writes to the board a proof would know nothing afterwards.
     fn drop_all(&mut self, frame: Frame)
         ensures { state self.new ≡ dropped (state self.old) frame.number }
     {
@@ -54,6 +55,7 @@ impl Board {
         }
     }
 
+    // Puts off the mark of the frame, and the C bit of each slot that maps it; a `for` as above.
     fn unmark(&mut self, frame: Frame)
         ensures { state self.new ≡ unmarked (state self.old) frame.number }
     {

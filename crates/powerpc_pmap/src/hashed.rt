@@ -41,6 +41,8 @@ impl Hashed {
     }
 }
 
+// Each board has these lines over its own exact calls, from which the meaning is proved; a generic wrapper would ask of a board
+// what the trait asks already.
 impl Pmap for Hashed {
     ghost view = { λ h. view_of (state h.board) };
 

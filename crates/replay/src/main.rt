@@ -6,9 +6,7 @@
 use machines::text::replay_all;
 use std::io;
 use std::io::Read;
-
-// One byte more than a trace may have: that many decide whether the file is too long.
-const ENOUGH: u64 = 65_535;
+use trace::reader::ENOUGH;
 
 fn main(rt: HostRuntime) -> io::Result<()> {
     let heap = rt.alloc();

@@ -1,4 +1,5 @@
 // The tables of a memory. Each field means what the field of its name means in the state of the rules.
+// Lists side by side and no list of records: the rules' state has these lists, and a sync borrows words and store apart.
 ghost use Rattle.std.specs.Prelude.{◌≡◌, ◌≤◌, vec_len, vec_capacity};
 
 use rules::region::{Region, WiredPlace};

@@ -1,1 +1,2 @@
 pub mod Codec
+pub mod Left

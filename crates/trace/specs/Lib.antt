@@ -1,3 +1,4 @@
 pub mod Format
 pub mod Listed
 pub mod Words
+pub mod Left

@@ -22,6 +22,7 @@ fn bits(number: u128, low: u32, width: u32) -> u128
 }
 
 // A number with the `width` bits of a value put below its own; none where the value has more bits.
+// An `if` and no `then_some`: in that form the proof of the value did not close.
 fn append(number: u128, width: u32, value: u128) -> Option<u128>
     requires { (width < 128) × (number * 2 ^ width < 2 ^ 128) }
     ensures { result ≡ (if nat_lt value (2 ^ width) then Some (number * 2 ^ width + value) else None) }

@@ -1,5 +1,5 @@
 // A whole trace file at once: its frame count and every entry in its place.
-ghost use Rattle.std.specs.Prelude.{◌≡◌, true, is_ok, Err, MatchResult, IfOk, IfErr, alloc_error, string_bytes};
+ghost use Rattle.std.specs.Prelude.{◌≡◌, true, is_ok, Err, MatchResult, IfOk, IfErr, string_bytes};
 ghost use Rattle.std.specs.Fn.{FnOnceReturnsAt};
 ghost use Rattle.trace.specs.Format.{checked};
 ghost use Rattle.trace.specs.Listed.{Listed};
@@ -11,7 +11,7 @@ use crate::reader::{Reader, check_file};
 use crate::record::Entry;
 use refusal::code::Refusal;
 use refusal::file::FileRefusal;
-use std::alloc::{AllocError, AllocFailed, Global};
+use std::alloc::{AllocError, Global};
 
 // What stands in a trace file.
 #[derive(Drop)]
@@ -35,11 +35,11 @@ impl From<FileRefusal> for ReadError {
     }
 }
 
-impl<T: Drop> From<AllocFailed<T>> for ReadError {
-    ghost from_gives = { λ _ r. r ≡ Memory alloc_error };
+impl From<AllocError> for ReadError {
+    ghost from_gives = { λ e r. r ≡ Memory e };
 
-    fn from(e: AllocFailed<T>) -> ReadError {
-        ReadError::Memory(AllocError::from(e))
+    fn from(e: AllocError) -> ReadError {
+        ReadError::Memory(e)
     }
 }
 
@@ -48,11 +48,7 @@ pub fn read_all(heap: Global, bytes: &[u8]) -> Result<Trace, ReadError>
     ensures { MatchResult result (λ t. Listed bytes.now t.frames t.entries.items) (λ e. elim e [ File f ↦ checked bytes.now ≡ Err f | Memory _ ↦ is_ok (checked bytes.now) ≡ true ]) }
 {
     let frames = check_file(bytes)?;
-    let mut entries = Vec::new(heap);
-    let mut reader = Reader::new(bytes);
-    while let Some(entry) = reader.next_entry() {
-        entries.push(entry)?;
-    }
+    let entries = Reader::new(bytes).collect(heap)?;
     Ok(Trace { frames, entries })
 }
 

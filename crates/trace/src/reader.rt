@@ -10,6 +10,9 @@ use refusal::file::FileRefusal;
 // The most bytes that a trace file may have.
 pub const MAX_BYTES: usize = 65_534;
 
+// One byte more: a program that reads so many can tell whether a file is too long.
+pub const ENOUGH: u64 = 65_535;
+
 // The most frames that a memory may have.
 pub const MAX_FRAMES: u16 = 256;
 
@@ -108,5 +111,20 @@ impl<'a> Reader<'a> {
         let content = content_at(self.bytes, self.at);
         self.at += RECORD_BYTES;
         Some(Entry { number, content })
+    }
+}
+
+impl<'a> Iterator for Reader<'a> {
+    type Item = Entry;
+
+    ghost use Rattle.std.specs.Iterator.{YieldsFirst, item_count};
+    ghost use Rattle.trace.specs.Left.{entries_left};
+
+    ghost next_gives = { YieldsFirst entries_left };
+
+    ghost remaining = { item_count entries_left };
+
+    fn next(&mut self) -> Option<Entry> {
+        self.next_entry()
     }
 }

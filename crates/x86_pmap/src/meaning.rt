@@ -56,6 +56,8 @@ impl X86 {
     }
 }
 
+// Each board has these lines over its own exact calls, from which the meaning is proved; a generic wrapper would ask of a board
+// what the trait asks already.
 impl Pmap for X86 {
     ghost view = { λ x. view_of (state x.board) };
 

@@ -13,6 +13,7 @@ use pmap::range::fits_entry;
 use refusal::pmap::PmapRefusal;
 use x86_words::word::{Bit, leaf};
 
+// Each call checks its numbers and goes on: two lines, which one function over a closure would not shorten.
 impl Board {
     // The table words.
     pub fn words(&self) -> &[u64]
