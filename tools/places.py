@@ -37,6 +37,15 @@ RULES = {
 }
 
 
+# the same for what spans lines
+SPANS = {
+    1: [("let .. else that only returns None or Err", r"let (?:Some|Ok)\([^)]*\) = [^;]*? else \{\s*return (?:None|Err\([^;]*\)|Ok\(None\));\s*\}"),
+        ("range test that only returns Err", r"if !fits_\w+\([^)]*\) \{\s*return Err[^;]*;\s*\}"),
+        ("match that only hands Some, None, Ok or Err on", r"match [^{;]*\{\s*(?:Some|Ok)\((\w+)\) => (?:Some|Ok)\(\1\),")],
+    3: [("search or count loop of an if", r"for [^{]*\{\s*if [^{]*\{\s*(?:return [^;]*;|\w+ \+= 1;)\s*\}\s*\}")],
+}
+
+
 def lines():
     for p in FILES:
         inside_tests = False
@@ -141,6 +150,12 @@ def main():
     funs = list(functions())
     for point in sorted(wanted):
         print(f"point {point}")
+        for kind, rule in SPANS.get(point, []):
+            found = []
+            for p in FILES:
+                text = p.read_text()
+                found += [f"{p}:{text.count(chr(10), 0, m.start()) + 1}" for m in re.finditer(rule, text)]
+            say(kind, found)
         for kind, rule in RULES.get(point, []):
             say(kind, [f"{p}:{n}: {l.strip()}" for p, n, l in lines() if re.search(rule, l)])
         if point == 2:
