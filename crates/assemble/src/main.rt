@@ -17,7 +17,7 @@ fn main(rt: HostRuntime) -> anyhow::Result<()> {
             rt.eprintln(fault)?;
             return Err(anyhow!("the text is no trace"));
         }
-        Err(ParseError::Memory) => return Err(anyhow!("no memory")),
+        Err(ParseError::Memory(_)) => return Err(anyhow!("no memory")),
     };
     let bytes = trace_bytes(heap, script.frames, &script.calls).map_err(|_| anyhow!(
         "no trace can be made of the text"

@@ -27,6 +27,7 @@ fn enter_other<P: Pmap>(pmap: &mut P, target: Target, other: u32) -> Result<bool
 }
 
 // Enters other pages one after the other until nothing is held at the target's place, and answers how many it entered.
+// A `for` with a `?` and no `position`: an enter may be refused.
 fn drive_out<P: Pmap>(pmap: &mut P, target: Target, others: &[u32]) -> Result<usize, PmapRefusal>
     requires { P.kept pmap.old }
     ensures kept { P.kept pmap.new }

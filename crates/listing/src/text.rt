@@ -8,6 +8,7 @@ use trace::listed::{Trace, file_text};
 use trace::record::Entry;
 
 // Puts a line for each entry behind a text.
+// The crate of scripts has the same three lines over calls: one function for both would have to say what any `Display` writes.
 fn push_lines(text: &mut String, entries: &[Entry]) -> Result<(), AllocError>
     ensures { OnOk result (string_bytes text.new ≡ string_bytes text.old ++ lines entries.now) }
 {

@@ -1,10 +1,10 @@
 -- An access carried to its frame: a hit, or a fault and the access again. Assumes nothing.
-use Rattle.std.proofs.Common.{◌≡◌, ℕ, Bool, true, false, eqb, Some, None, Option, sym, refl, ap, ◌∙◌, subst, inl, ⊎_elim, arith}
+use Rattle.std.proofs.Common.{◌≡◌, ℕ, Bool, true, false, eqb, Some, None, Option, sym, refl, ap, ◌∙◌, subst, inl, inr, ⊎_elim, arith}
 use Rattle.std.proofs.lemmas.Bool.{cases_Bool, cond-true, cond-false, both_ways, and_parts, and_from, or_cases, eqb-true, lt-ltb}
 use Rattle.refusal.specs.declared.pmap.PmapRefusal.{PmapRefusal}
 use Rattle.refusal.specs.declared.pmap.PmapRefusal.TheVariants.{Range, WiredFull}
 use Rattle.pmap.specs.Ranges.{fits_place, fits_protection, fits_entry}
-use Rattle.pmap.specs.Meaning.{Mapping, View, EnterRefused, Stays, PutForgetting, allows, answered, marked}
+use Rattle.pmap.specs.Meaning.{Mapping, View, EnterRefused, Stays, PutForgetting, is_wired, allows, answered, marked}
 use Rattle.pmap.specs.declared.access.Access.TheVariants.{Hit, Miss}
 use Rattle.rules.specs.declared.answer.Kind.TheVariants.{Hit as HitKind}
 use Rattle.rules.specs.declared.region.Region.{Region}
@@ -20,6 +20,13 @@ use Rattle.memory_meaning.specs.Ready.{serves}
 use Rattle.memory_meaning.specs.Leaves.{Touches}
 use Rattle.memory_meaning.specs.Reaching.{Reaches}
 use Rattle.memory_meaning.proofs.Matching.{cases_place}
+
+-- a mapping that stays twice stays
+pub stays_trans : (x y z : Option Mapping) → Stays x y → Stays y z → Stays x z
+stays_trans x y z first second = ⊎_elim
+    (λ (e : y ≡ x). ⊎_elim (λ q. inl (q ∙ e)) (λ n. inr (n.0, ap is_wired (sym e) ∙ n.1)) second)
+    (λ n. inr (⊎_elim (λ q. q ∙ n.0) (λ k. k.0) second, n.1))
+    first
 
 -- a put that may forget leaves each place as it was, or empty where it was not wired
 pub forgets_all : (v w : View) (a p : ℕ) (marks : ℕ → Bool) → PutForgetting v w a p (v.held a p) marks → (c d : ℕ) → Stays (v.held c d) (w.held c d)

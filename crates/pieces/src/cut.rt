@@ -75,6 +75,7 @@ impl<'a> Pieces<'a> {
     }
 
     // The next word: the next piece between blanks that is not empty.
+    // A loop and no chain: each turn moves the place in the text, and the proof follows it.
     pub fn next_word(&mut self) -> Option<&'a [u8]>
         ensures split { words_at self.old.text.now self.old.at ≡ begun (option_map (λ x. x.now) result) (words_at self.old.text.now self.new.at) }
         ensures text { self.new.text.now ≡ self.old.text.now }

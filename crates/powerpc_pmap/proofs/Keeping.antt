@@ -1,5 +1,5 @@
 -- Changes of slots that keep what a board keeps.
-use Rattle.std.proofs.Common.{◌≡◌, ℕ, zero, suc, ◌+◌, ◌<◌, ◌≤◌, Bool, true, false, ◌⊎◌, length, sym, ◌∙◌, subst, inl, inr, refl, ⊎_elim, arith}
+use Rattle.std.proofs.Common.{◌≡◌, ℕ, zero, suc, ◌+◌, ◌<◌, ◌≤◌, Bool, true, ◌⊎◌, length, sym, ◌∙◌, subst, inl, inr, ⊎_elim, arith}
 use Rattle.std.proofs.lemmas.Bool.{cases_eq, both_ways}
 use Rattle.pmap.specs.Tally.{tally}
 use Rattle.powerpc_words.specs.State.{State, first, second, wired_at}
@@ -28,14 +28,6 @@ tally_one f g k (suc n) h = ⊎_elim
     let last : f n ≡ true → (g n ≡ true) ⊎ (n ≡ k) = h n (omega arith) in
     grind (arith, less, last))
     (cases_eq n k)
-
-pub tally_zero : (f : ℕ → Bool) (n : ℕ) → ((j : ℕ) → j < n → f j ≡ false) → tally f n ≡ 0
-unfolding tally
-tally_zero f zero h = refl
-tally_zero f (suc n) h =
-    let none = tally_zero f n (λ j b. h j (omega arith)) in
-    let last : f n ≡ false = h n (omega arith) in
-    grind (arith, none, last)
 
 -- what may become of a slot: it stays, it is emptied, or its second word or wired mark change while its place and frame stay
 pub data Tame (st sv : State) (k : ℕ) : Type 0 where

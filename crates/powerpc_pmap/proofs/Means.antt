@@ -26,7 +26,7 @@ use Rattle.powerpc_pmap.specs.Kept.{At, Kept}
 use Rattle.powerpc_pmap.proofs.Finds.{option_cases, lookup_finds}
 use Rattle.powerpc_pmap.proofs.Decoded.{entry_at, slot_at, table, slot_some, slot_unused, at_space, at_page}
 use Rattle.powerpc_pmap.proofs.Showing.{fits_place_is, shows, single}
-use Rattle.powerpc_pmap.proofs.Keeping.{tally_zero}
+use Rattle.slots.proofs.Tally.{tally_zero}
 use Rattle.powerpc_pmap.proofs.Colors.{touched_shaped, lowered_shaped, touched_frame, touched_protection, touched_write_changed, touched_read_changed, lowered_frame, lowered_protection, lowered_changed}
 use Rattle.powerpc_pmap.proofs.Dropping.{used_maps, dropped_keeps, dropped_table}
 use Rattle.powerpc_pmap.proofs.Rewriting.{reworded_keeps, reworded_table, unwired_keeps, unwired_table}

@@ -8,32 +8,33 @@ pub const SLOTS: usize = 8_192;
 // The number of a group of eight slots, in range.
 #[derive(Clone, Copy, PartialEq, Eq, Debug)]
 pub struct Group {
-    index: usize,
+    rank: usize,
 }
 
 impl Model for Group {
     ghost Value = { ℕ };
 
-    ghost view = { λ g. g.index };
+    ghost view = { λ g. g.rank };
 
-    ghost invariant = { λ g. g.index < 1024 };
+    ghost invariant = { λ g. g.rank < 1024 };
 
-    ghost inverse = { λ n. record { index = n } };
+    ghost inverse = { λ n. record { rank = n } };
 }
 
 impl Group {
-    pub(crate) fn new(index: usize) -> Group
-        requires { index < 1024 }
-        ensures { result ≡ index }
+    pub(crate) fn new(rank: usize) -> Group
+        requires { rank < 1024 }
+        ensures { result ≡ rank }
     {
-        Group { index }
+        Group { rank }
     }
 
-    pub(crate) fn index(self) -> usize
+    // The group's number.
+    pub fn index(self) -> usize
         ensures value { result ≡ self }
         ensures bound { result < 1024 }
     {
-        self.index
+        self.rank
     }
 
     // One of the group's slots.
@@ -41,7 +42,7 @@ impl Group {
         requires { place < 8 }
         ensures { result ≡ 8 * self + place }
     {
-        Slot::new(8 * self.index + place)
+        Slot::new(8 * self.index() + place)
     }
 }
 

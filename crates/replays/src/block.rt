@@ -51,7 +51,7 @@ pub fn replay_on<P: Pmap + Drop>(
     ensures { IfOk result (λ t. Replayed trace.now.frames trace.now.entries.items name.now (string_bytes t)) }
 {
     let calls = calls_in(heap, &trace.entries)?;
-    // the reader has seen to it that the frame count fits
+    // of a trace that was read the frame count fits, so that what is wanting is memory
     let ran = run(heap, pmap, trace.frames, &calls).map_err(|_| AllocError)?;
     block(heap, name, &trace.entries, &ran)
 }

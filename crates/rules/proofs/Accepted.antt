@@ -1,5 +1,5 @@
 -- What an accepted call passed, and that each call leaves what the state of a memory keeps. Assumes nothing.
-use Rattle.std.proofs.Common.{◌≡◌, ℕ, ◌+◌, ◌<◌, ◌≤◌, true, not, ◌&&◌, eqb, ltb, leb, length, Some, None, Option, refl, ap, ◌∙◌, arith}
+use Rattle.std.proofs.Common.{◌≡◌, ℕ, ◌+◌, ◌/◌, ◌<◌, ◌≤◌, Bool, true, not, ◌&&◌, eqb, ltb, leb, length, Some, None, Option, refl, ap, ◌∙◌, arith}
 use Rattle.std.proofs.lemmas.List.{length_push}
 use Rattle.std.proofs.ByRecursion.{All-push}
 use Rattle.std.proofs.lemmas.Bool.{ltb-true, leb-true, leb-false, eqb-true, not-false, and_parts, and_from}
@@ -13,10 +13,10 @@ use Rattle.rules.specs.Lists.{first, any, without, changed}
 use Rattle.rules.specs.State.{State, lie, page_in}
 use Rattle.rules.specs.Refusals.{refuse, covers, cover, begins, overlaps, is_place, wants_frame, fits_map, read_refusal, write_refusal, wire_refusal, region_refusal, call_refusal, refusal}
 use Rattle.rules.specs.Paging.{resident, evicted_by}
-use Rattle.rules.specs.Rules.{page_at, object_page, mapped, with_protection, moved}
+use Rattle.rules.specs.Rules.{page_at, object_page, mapped, with_protection, moved, moved_by, after, reply, counted}
 use Rattle.rules.specs.Good.{Good, RegionFits}
 use Rattle.rules.proofs.Lists.{never, first_passes, first_all_of, all_without, length_without_le, all_changed, length_changed}
-use Rattle.rules.proofs.GoodKept.{refuse_none, Brought, brings, good_with_regions, good_wired, good_unwired, good_written, good_synced}
+use Rattle.rules.proofs.GoodKept.{refuse_none, Brought, brings, good_with_regions, good_with_counts, good_wired, good_unwired, good_written, good_synced}
 
 -- the numbers of a region, and of a page that it covers
 
@@ -52,6 +52,7 @@ pub record Covered (r : Region) (a p : ℕ) : Type 0 where
   pub from : r.first ≤ p
   pub upto : p < r.first + r.count
   pub page_low : page_in r p < 2048
+  pub page_object : page_in r p / 256 ≡ r.object
 
 pub covered : (s : State) (a p : ℕ) (r : Region) → Good s → cover s.regions a p ≡ Some r → Covered r a p
 covered s a p r g e =
@@ -68,6 +69,7 @@ covered s a p r g e =
       from = from;
       upto = upto;
       page_low = omega (arith, n.object, n.offset);
+      page_object = omega (arith, n.offset);
     }
 
 -- an accepted read, write or wire is to an object page that is resident or finds a frame
@@ -181,3 +183,10 @@ good_moved s (Wire a p) g e =
     rw b.lies (good_wired t a p (page_at s a p) b.frame b.good b.lies (let h = ap length b.wired in let k = passed.1 in omega arith))
 good_moved s (Unwire a p) g e = good_unwired s a p g
 good_moved s (Sync o) g e = good_synced s o g
+
+pub good_after : (s : State) (c : Call) (hit : Bool) → Good s → Good (after s c hit)
+good_after s c hit g = good_with_counts (moved_by s c (refusal s c)) (counted s.counts (reply s c hit)) (by (refusal s c) refl)
+  where
+    by : (o : Option MemoryRefusal) → refusal s c ≡ o → Good (moved_by s c o)
+    by None e = good_moved s c g (not_limited s c e)
+    by (Some r) e = g

@@ -131,6 +131,9 @@ module _ (s : State) (x : ℕ) (g : Good s) (low : x < 2048) where
   pub good_resident : wants_frame s (lie s x) ≡ None → Good (resident s x)
   good_resident room = (brings room).good
 
+  pub resident_lies : wants_frame s (lie s x) ≡ None → (f : ℕ) × (lie (resident s x) x ≡ Some f)
+  resident_lies room = ((brings room).frame, (brings room).lies)
+
 -- a new memory
 
 none_at : (n x : ℕ) → get_or {A = Option ℕ} (replicate n None) x None ≡ None

@@ -33,4 +33,4 @@ trace_of frames calls = trace_by (encoded_frames frames) calls
 abbrev pub Refuses : Result (List ℕ) Unmade → Unmade → Type 0
 Refuses r (File e) = r ≡ Err (File e)
 Refuses r (Misfit call) = r ≡ Err (Misfit call)
-Refuses r Memory = Unit {0}
+Refuses r (Memory _) = Unit {0}

@@ -16,7 +16,7 @@ pub(crate) const MAX_RECORDS: usize = 5_461;
 pub enum Unmade {
     File(FileRefusal),
     Misfit(Call),
-    Memory,
+    Memory(AllocError),
 }
 
 impl From<FileRefusal> for Unmade {
@@ -28,10 +28,10 @@ impl From<FileRefusal> for Unmade {
 }
 
 impl From<AllocError> for Unmade {
-    ghost from_gives = { λ _ r. r ≡ Memory };
+    ghost from_gives = { λ e r. r ≡ Memory e };
 
-    fn from(_e: AllocError) -> Unmade {
-        Unmade::Memory
+    fn from(e: AllocError) -> Unmade {
+        Unmade::Memory(e)
     }
 }
 

@@ -1,5 +1,5 @@
 // A whole text, read line by line.
-ghost use Rattle.std.specs.Prelude.{◌≡◌, ◌+◌, ◌<◌, ◌≤◌, [], ◌∷◌, length, Ok, Err, MatchOption, MatchResult, OnSome};
+ghost use Rattle.std.specs.Prelude.{◌≡◌, ◌+◌, ◌<◌, ◌≤◌, [], ◌∷◌, length, Ok, Err, MatchOption, MatchResult, OnSome, alloc_error};
 ghost use Rattle.pieces.specs.declared.cut.Cut.TheVariants.{Lines};
 ghost use Rattle.pieces.specs.Cuts.{pieces_at};
 ghost use Rattle.script.specs.Whole.{spoken, faulted, record_at, records_in, script_of};
@@ -11,7 +11,7 @@ use pieces::cut::{Cut, Pieces};
 use script_line::fault::{Fault, Reason};
 use script_line::field::Field;
 use script_line::line;
-use std::alloc::{AllocFailed, Global};
+use std::alloc::{AllocError, AllocFailed, Global};
 
 // What a text says: a frame count and the calls of the records.
 #[derive(Drop)]
@@ -24,7 +24,7 @@ pub struct Script {
 #[derive(Clone, Copy, PartialEq, Eq, Debug)]
 pub enum ParseError {
     Text(Fault),
-    Memory,
+    Memory(AllocError),
 }
 
 impl From<Fault> for ParseError {
@@ -36,10 +36,10 @@ impl From<Fault> for ParseError {
 }
 
 impl<T: Drop> From<AllocFailed<T>> for ParseError {
-    ghost from_gives = { λ _ r. r ≡ Memory };
+    ghost from_gives = { λ _ r. r ≡ Memory alloc_error };
 
-    fn from(_e: AllocFailed<T>) -> ParseError {
-        ParseError::Memory
+    fn from(e: AllocFailed<T>) -> ParseError {
+        ParseError::Memory(AllocError::from(e))
     }
 }
 
@@ -58,7 +58,7 @@ struct Line<'a> {
 }
 
 impl<'a> Rest<'a> {
-    // The next line that says something.
+    // The next line that says something. A loop and no chain: each turn moves the place in the text, and the proof follows it.
     fn next_line(&mut self) -> Option<Line<'a>>
         requires { self.old.number ≤ self.old.lines.at + 1 }
         ensures split { MatchOption result (spoken self.old.number (pieces_at Lines self.old.lines.text.now self.old.lines.at) ≡ []) (λ l. spoken self.old.number (pieces_at Lines self.old.lines.text.now self.old.lines.at) ≡ (l.number, l.text.now) ∷ spoken self.new.number (pieces_at Lines self.old.lines.text.now self.new.lines.at)) }
@@ -100,7 +100,7 @@ fn record_at(line: Line<'_>, before: usize) -> Result<Call, Fault>
 // The calls of the lines that are left.
 fn records(heap: Global, rest: &mut Rest<'_>) -> Result<Vec<Call>, ParseError>
     requires { rest.old.number ≤ rest.old.lines.at + 1 }
-    ensures { MatchResult result (λ v. records_in [] (spoken rest.old.number (pieces_at Lines rest.old.lines.text.now rest.old.lines.at)) ≡ Ok v.items) (λ e. elim e [ Text f ↦ records_in [] (spoken rest.old.number (pieces_at Lines rest.old.lines.text.now rest.old.lines.at)) ≡ Err f | Memory ↦ Unit {0} ]) }
+    ensures { MatchResult result (λ v. records_in [] (spoken rest.old.number (pieces_at Lines rest.old.lines.text.now rest.old.lines.at)) ≡ Ok v.items) (λ e. elim e [ Text f ↦ records_in [] (spoken rest.old.number (pieces_at Lines rest.old.lines.text.now rest.old.lines.at)) ≡ Err f | Memory _ ↦ Unit {0} ]) }
 {
     let mut calls = Vec::new(heap);
     while let Some(line) = rest.next_line() {
@@ -113,7 +113,7 @@ fn records(heap: Global, rest: &mut Rest<'_>) -> Result<Vec<Call>, ParseError>
 
 // The frame count and the calls that a text says, or what is wrong with it.
 pub fn parse(heap: Global, text: &[u8]) -> Result<Script, ParseError>
-    ensures { MatchResult result (λ s. script_of text.now ≡ Ok (s.frames, s.calls.items)) (λ e. elim e [ Text f ↦ script_of text.now ≡ Err f | Memory ↦ Unit {0} ]) }
+    ensures { MatchResult result (λ s. script_of text.now ≡ Ok (s.frames, s.calls.items)) (λ e. elim e [ Text f ↦ script_of text.now ≡ Err f | Memory _ ↦ Unit {0} ]) }
 {
     let mut rest = Rest {
         lines: Pieces::new(text),

@@ -6,7 +6,7 @@ use calls::Call;
 use std::alloc::{AllocError, Global};
 use std::fmt::Write;
 
-// Puts a line for each call behind a text.
+// Puts a line for each call behind a text, as the listing does for entries.
 fn push_calls(text: &mut String, calls: &[Call]) -> Result<(), AllocError>
     ensures { OnOk result (string_bytes text.new ≡ string_bytes text.old ++ call_lines calls.now) }
 {

@@ -10,7 +10,7 @@ fn said(heap: Global, text: &str) -> Result<String, Fail> {
     match parse(heap, text.as_bytes()) {
         Ok(script) => Ok(script_text(heap, script.frames, &script.calls)?),
         Err(ParseError::Text(fault)) => Ok(format!(in heap; "{fault}")?),
-        Err(ParseError::Memory) => Err(Fail::new("no memory")),
+        Err(ParseError::Memory(_)) => Err(Fail::new("no memory")),
     }
 }
 

@@ -1,4 +1,5 @@
 -- An eviction of the victim's page is a save, where its frame is modified, and a release. Assumes nothing.
+use mathlib.Core.Path.{fun_ext}
 use Rattle.std.proofs.Common.{◌≡◌, ℕ, Bool, true, false, eqb, List, [], ◌∷◌, get_or, set, Some, None, sym, ap, ◌∙◌, ⊎_elim, arith}
 use Rattle.std.specs.List.{remove}
 use Rattle.std.proofs.lemmas.Bool.{cases_Bool, cond-true, cond-false, eq-eqb, ne_eqb, both_ways}
@@ -9,7 +10,7 @@ use Rattle.rules.specs.Refusals.{free}
 use Rattle.rules.specs.Paging.{evict, owner, victim}
 use Rattle.rules.proofs.Lists.{first_passes}
 use Rattle.tables.specs.Held.{with_dirty, saved_to, released}
-use Rattle.tables.proofs.Positions.{place_first, removed_is}
+use Rattle.tables.proofs.Positions.{place_first, nowhere_first, removed_is}
 
 -- the first number that passes a test is also the first of its kind
 pub without_first : (test : ℕ → Bool) (xs : List ℕ) (f : ℕ) → first test xs ≡ Some f → without test xs ≡ without (eqb f) xs
@@ -25,6 +26,16 @@ without_first test (x ∷ xs) f e = ⊎_elim
     let far : f ≡ x → ⊥ = λ q. both_ways (test x) t (ap test (sym q) ∙ first_passes test xs f rest) in
     cond-false _ _ _ t ∙ ap (◌∷◌ x) (without_first test xs f rest) ∙ sym (cond-false _ _ _ (ne_eqb f x far)))
     (cases_Bool (test x))
+
+-- a frame that is not modified is none to be unmarked
+pub unmarked_clean : (dirty : ℕ → Bool) (f : ℕ) → dirty f ≡ false → unmarked dirty f ≡ dirty
+unmarked_clean dirty f e = fun_ext λ g. ⊎_elim
+    (λ (q : dirty g ≡ true).
+    let far : g ≡ f → ⊥ = λ same. both_ways (dirty f) e (ap dirty (sym same) ∙ q) in
+    let no = ne_eqb g f far in
+    simp (q, no))
+    (λ (q : dirty g ≡ false). simp q)
+    (cases_Bool (dirty g))
 
 module _ (s : State) (at : ℕ) (e : place (free s.wired) s.queue ≡ Some at) where
   -- the frame at that position of the queue is the victim
@@ -62,3 +73,7 @@ module _ (s : State) (at : ℕ) (e : place (free s.wired) s.queue ≡ Some at) w
     dirty = unmarked s.dirty (get_or s.queue at 0);
     counts = s.counts;
   }
+
+-- where there is no free frame there is no victim
+pub victim_none : (s : State) → place (free s.wired) s.queue ≡ None → victim s ≡ None
+victim_none s e = nowhere_first (free s.wired) s.queue e

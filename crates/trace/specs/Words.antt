@@ -7,7 +7,7 @@ use Rattle.trace.specs.declared.record.Entry.{Entry}
 use Rattle.calls.specs.declared.Call.{Call}
 use Rattle.calls.specs.Words.{call_words}
 
--- a call in words, or why its record it is turned away
+-- a call in words, or why its record is turned away
 abbrev pub content_words : Result Call FileRefusal → List ℕ
 content_words (Ok r) = codes " " ++ call_words r
 content_words (Err e) = codes " refused " ++ code_words (file_code e)

@@ -13,7 +13,7 @@ pub const MAX_BYTES: usize = 65_534;
 // One byte more: a program that reads so many can tell whether a file is too long.
 pub const ENOUGH: u64 = 65_535;
 
-// The most frames that a memory may have.
+// The most frames that a memory may have; the pmap's limit stands in its own crate, which traces do without.
 pub const MAX_FRAMES: u16 = 256;
 
 // The bytes of the frame count, and of a record.
@@ -21,7 +21,7 @@ const COUNT_BYTES: usize = 2;
 
 const RECORD_BYTES: usize = 12;
 
-// The bytes of a file that no refusal turns away, and the place where the next record begins.
+// The bytes of a file that no refusal turns away, and the place where the next record begins: the form that the project asks for.
 #[derive(Drop)]
 pub struct Reader<'a> {
     bytes: &'a [u8],

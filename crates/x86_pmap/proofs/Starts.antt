@@ -10,7 +10,7 @@ use Rattle.x86_words.specs.Words.{pointer, dirty, wired, dirty_in}
 use Rattle.x86_words.specs.Walks.{linear}
 use Rattle.x86_words.specs.State.{word_at, found, is_leaf, any_dirty, start_word, started}
 use Rattle.x86_words.proofs.Sweeps.{rewritten_word, any_dirty_is}
-use Rattle.x86_words.proofs.Sets.{tally_zero}
+use Rattle.slots.proofs.Tally.{tally_zero}
 use Rattle.x86_pmap.specs.Kept.{Kept, Points, wired_leaf}
 use Rattle.x86_pmap.specs.Views.{view_of}
 use Rattle.x86_pmap.proofs.Fields.{pointer_points, points_some, zero_wired, zero_dirty}

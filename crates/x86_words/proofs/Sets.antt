@@ -9,6 +9,7 @@ use Rattle.std.proofs.lemmas.List.Folds.{list_any_more}
 use Rattle.std.proofs.lemmas.Bool.Decides.{Decides-below_or}
 use Rattle.std.proofs.lemmas.List.{get_or_past, get_or-drop, take_all, length-drop}
 use Rattle.pmap.specs.Tally.{tally}
+use Rattle.slots.proofs.Tally.{tally_zero}
 use Rattle.x86_words.specs.Words.{is_on, wired, maps, dirty_in, points_to, cleaned}
 use Rattle.x86_words.specs.State.{State, word_at, any_dirty, is_directory, mapping, in_leaf, any_wired, holds_wired, leaf_after, free_from, unlinked_word, unmarked_word}
 use Rattle.x86_words.proofs.Sweeps.{any_none, Changing, changing_all}
@@ -135,12 +136,6 @@ module _ (words : List ℕ) (t : ℕ) where
   pub free_last : (n : ℕ) → n ≡ 0 → free_from words t n ≡ t
   unfolding free_from
   free_last n q = rw q
-
--- none of the numbers below n passes
-pub tally_zero : (test : ℕ → Bool) (n : ℕ) → ((k : ℕ) → k < n → test k ≡ false) → tally test n ≡ 0
-unfolding tally
-tally_zero test zero none = refl
-tally_zero test (suc n) none = rw (none n (omega arith)) (omega (arith, tally_zero test n (λ k h. none k (omega arith))))
 
 -- a count over the numbers from a on, as the code makes it
 module _ (test : ℕ → Bool) (a : ℕ) where

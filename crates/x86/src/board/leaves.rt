@@ -20,6 +20,7 @@ impl Board {
     fn forget_leaf(&mut self, leaf: Leaf)
         ensures { state self.new ≡ emptied (state self.old) (in_leaf leaf.number) }
     {
+        // A `for` over positions: each turn writes a word and a mark.
         let first = TABLE * leaf.number;
         for at in first..first + TABLE {
             self.forget(at);
