@@ -5,7 +5,7 @@ ghost use Rattle.rules.specs.Rules.{reply as reply_to, after as state_after};
 ghost use Rattle.rules.specs.History.{May};
 ghost use Rattle.memory_meaning.specs.Ready.{hits};
 ghost use Rattle.memory_meaning.specs.Leaves.{Leaves};
-ghost use Rattle.memory.specs.Whole.{seen, state};
+ghost use Rattle.memory.specs.Whole.{seen, state, Whole};
 
 use crate::memory::Memory;
 use calls::Call;
@@ -24,6 +24,7 @@ impl<P: Pmap> Memory<P> {
         ensures state { state P.view self.new ≡ state_after (state P.view self.old) call (hits (seen P.view self.old) call) }
         ensures view { Leaves (seen P.view self.old) (seen P.view self.new) (state P.view self.old) call (refusal_of (state P.view self.old) call) }
         ensures may { May (state P.view self.old) call (hits (seen P.view self.old) call) }
+        ensures whole { Whole P.view P.kept self.new }
     {
         let counts = self.parts.counts;
         if counts.calls >= CALL_LIMIT {

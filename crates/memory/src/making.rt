@@ -2,7 +2,7 @@
 ghost use Rattle.std.specs.Prelude.{◌≡◌, Ok, Err};
 ghost use Rattle.refusal.specs.Making.{GivenBack};
 ghost use Rattle.memory.specs.Making.{fits_frames, Made};
-ghost use Rattle.memory.specs.Whole.{seen, state};
+ghost use Rattle.memory.specs.Whole.{seen, state, Whole};
 
 use crate::memory::Memory;
 use crate::parts::Parts;
@@ -24,7 +24,7 @@ impl<P: Pmap> Memory<P> {
     // A new memory of `frames` frames, 1 to 256: no region, no resident page, starting words in its backing store.
     // All that its calls need is allocated here. Where none is made, the pmap comes back as it was.
     pub fn new(heap: Global, mut pmap: P, frames: u16) -> Result<Memory<P>, NotMade<P>>
-        ensures { elim result [ Ok m ↦ Made frames (seen P.view m) (state P.view m) | Err e ↦ GivenBack (fits_frames frames) pmap e ] }
+        ensures { elim result [ Ok m ↦ Made frames (seen P.view m) (state P.view m) × Whole P.view P.kept m | Err e ↦ GivenBack (fits_frames frames) pmap e ] }
     {
         if !fits_frames(frames) {
             return Err(NotMade::Refused(FileRefusal::Size, pmap));

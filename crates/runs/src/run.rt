@@ -2,7 +2,7 @@
 ghost use Rattle.std.specs.Prelude.{◌≡◌, ◌≤◌, [], length, Ok, Err, vec_len, vec_capacity};
 ghost use Rattle.refusal.specs.Making.{GivenBack};
 ghost use Rattle.memory.specs.Making.{fits_frames};
-ghost use Rattle.memory.specs.Whole.{state};
+ghost use Rattle.memory.specs.Whole.{state, Whole};
 ghost use Rattle.runs.specs.RunLaw.{Trail, RunLaw};
 
 use calls::Call;
@@ -24,9 +24,11 @@ pub struct Ran<P: Pmap> {
 // Gives the memory each call in turn. The replies have their place reserved.
 fn drive<P: Pmap>(memory: &mut Memory<P>, calls: &[Call], replies: &mut Vec<Reply>, frames: u16)
     requires begun { Trail frames [] replies.old.items (state P.view memory.old) }
+    requires whole { Whole P.view P.kept memory.old }
     requires empty { vec_len replies.old ≡ 0 }
     requires room { length calls.now ≤ vec_capacity replies.old }
-    ensures { Trail frames calls.now replies.new.items (state P.view memory.new) }
+    ensures trail { Trail frames calls.now replies.new.items (state P.view memory.new) }
+    ensures whole { Whole P.view P.kept memory.new }
 {
     // no `collect`: it would ask for memory once the calls have begun
     for call in calls {
@@ -43,7 +45,8 @@ pub fn run<P: Pmap>(
     frames: u16,
     calls: &[Call],
 ) -> Result<Ran<P>, NotMade<P>>
-    ensures { elim result [ Ok x ↦ RunLaw frames calls.now x.replies.items (state P.view x.memory) | Err e ↦ GivenBack (fits_frames frames) pmap e ] }
+    ensures law { elim result [ Ok x ↦ RunLaw frames calls.now x.replies.items (state P.view x.memory) | Err e ↦ GivenBack (fits_frames frames) pmap e ] }
+    ensures keeps { elim result [ Ok x ↦ Whole P.view P.kept x.memory | Err e ↦ Unit {0} ] }
 {
     if !fits_frames(frames) {
         return Err(NotMade::Refused(FileRefusal::Size, pmap));

@@ -8,7 +8,7 @@ use Rattle.runs.proofs.Trails.{trail_more}
 use Rattle.runs.proofs.run.drive.Goals as goal
 
 pub loop-call-init : goal.loop-call-init
-loop-call-init g c = (c.requires.begun, c.requires.empty, c.requires.room)
+loop-call-init g c = (c.requires.begun, c.requires.empty, c.requires.room, c.requires.whole)
 
 pub loop-call-preserved : goal.loop-call-preserved
 loop-call-preserved g c =
@@ -24,8 +24,9 @@ loop-call-preserved g c =
           (subst (λ z. Trail c.args.frames (take i calls ++ (call ∷ [])) z (state v e)) (sym c.push_reserved.ensures.items) more),
       c.push_reserved.ensures.len ∙ ap (λ z. z + 1) c.loop-call.invariant.1,
       omega (arith, c.push_reserved.ensures.capacity, c.loop-call.invariant.2),
+      told.whole,
     )
 
-pub returns : goal.returns
-returns g c =
+pub returns-clause-trail : goal.returns-clause-trail
+returns-clause-trail g c =
     subst (λ z. Trail c.args.frames z (vec_items c.loop-call.replies) (state g.P.Pmap.view c.loop-call.memory)) (take_all c.loop-call.call-index c.args.calls.now c.loop-call-test.false) c.loop-call.invariant.0

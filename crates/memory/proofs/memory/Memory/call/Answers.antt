@@ -25,3 +25,6 @@ returns-clause-state g c =
 
 pub returns-clause-may : goal.returns-clause-may
 returns-clause-may g c = may_called g.P.Pmap.view g.P.Pmap.kept _ _ c.args.call c.self.invariant c.self.view_is
+
+pub returns-clause-whole : goal.returns-clause-whole
+returns-clause-whole g c = invariant_of-self g c
