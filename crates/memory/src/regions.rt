@@ -17,6 +17,8 @@ use refusal::memory::MemoryRefusal;
 use refusal::pmap::PmapRefusal;
 use rules::region::Region;
 
+// The calls test their ranges and make no `Place` by a `?`, which would give the pmap's refusal and not the memory's.
+
 // Whether the numbers of a map are all in range.
 fn fits_map(region: Region) -> bool
     ensures { result ≡ fits_map region.space region.first region.count region.object region.offset region.protection }

@@ -13,6 +13,7 @@ impl<P: Pmap> Memory<P> {
     pub(crate) fn unwire_place(&mut self, space: u8, page: u32) -> Result<(), MemoryRefusal>
         ensures { Serving P.view self.old self.new (Unwire space page) (done_reply result) }
     {
+        // no `Place::new` with a `?`, which would give the pmap's refusal
         if !fits_place(space, page) {
             return Err(MemoryRefusal::Range);
         }

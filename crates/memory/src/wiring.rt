@@ -17,6 +17,7 @@ impl<P: Pmap> Memory<P> {
     pub fn wire_place(&mut self, space: u8, page: u32) -> Result<Wiring, MemoryRefusal>
         ensures { Serving P.view self.old self.new (WireCall space page) (wired_reply result) }
     {
+        // no `Place::new` with a `?`, which would give the pmap's refusal
         if !fits_place(space, page) {
             return Err(MemoryRefusal::Range);
         }

@@ -7,7 +7,8 @@ ghost use Rattle.memory_meaning.specs.Storing.{StoresOne, StoresBelow, OnePageEa
 use pmap::interface::Pmap;
 use refusal::pmap::PmapRefusal;
 
-// Changes the mappings of `count` pages from the first on, each by one call.
+// Changes the mappings of `count` pages from the first on, each by one call. Space, first page and count come apart, as the
+// definition of what changes takes them.
 fn change_pages<P: Pmap, F: Fn(&mut P, u8, u32) -> Result<(), PmapRefusal>>(
     pmap: &mut P,
     space: u8,

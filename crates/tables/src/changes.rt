@@ -1,5 +1,6 @@
 // What changes the tables. Nothing here allocates.
-// Frames come as numbers: the queue holds numbers, which the state keeps below 256, and a pmap takes numbers.
+// Frames come as numbers: the queue holds numbers, which the state keeps below 256, and a pmap takes numbers. So do object pages:
+// they are places in the lists, as the rules have them.
 ghost use Rattle.std.specs.Prelude.{◌≡◌, ℕ, ◌<◌, Bool, [], ◌∷◌, ◌++◌, vec_len, slice_index, slice_index_or, slice_set};
 ghost use Rattle.std.specs.List.{remove};
 ghost use Rattle.rules.specs.declared.counts.Counts.{Counts};
