@@ -1,9 +1,9 @@
-// The slots: eight for wired mappings and one for the latest entry.
+// The slots: eight for wired mappings and one for the latest entry; searches and changes of any list of slots.
 ghost use Rattle.std.specs.Prelude.{◌≡◌, true, map, take, position, replicate, slice_set, Some as Just, None as Nothing, IfSome, IsNone, ◌↔◌};
 ghost use Rattle.pmap.specs.Meaning.{Crowded};
-ghost use Rattle.minimal.specs.Entries.{after, vacated, removed, lowered, dropped, is_room, found, held_in, Sound, Room};
+ghost use Rattle.minimal.specs.Entries.{after, vacated, removed, lowered, dropped, changed, is_room, found, held_in, Sound, Room};
 
-use crate::entry::Entry;
+use crate::entry::{Change, Entry, change_slot, is_at};
 use pmap::frame::Frame;
 use pmap::place::Place;
 use pmap::range::WIRED_PLACES;
@@ -28,11 +28,7 @@ impl Slots {
     pub fn find(&self, place: Place) -> Option<Entry>
         ensures { result ≡ found self.now.list place.space place.page }
     {
-        self.list
-            .iter()
-            .find(|slot| slot.is_some_and(|entry| entry.place == place))
-            .copied()
-            .flatten()
+        find_entry(&self.list, place.space, place.page)
     }
 
     // The first of the slots for wired mappings that is empty or holds the place.
@@ -105,4 +101,24 @@ impl Slots {
         list[at] = Some(entry);
         Slots { list }
     }
+}
+
+// Makes a change in every slot.
+pub fn change_slots(slots: &mut [Option<Entry>], change: Change)
+    ensures { slots.new ≡ map (changed change) slots.old }
+{
+    for slot in slots.iter_mut() {
+        *slot = change_slot(*slot, change);
+    }
+}
+
+// The entry of the place.
+pub fn find_entry(slots: &[Option<Entry>], space: u8, page: u32) -> Option<Entry>
+    ensures { result ≡ found slots.now space page }
+{
+    slots
+        .iter()
+        .find(|slot| is_at(**slot, space, page))
+        .copied()
+        .flatten()
 }
