@@ -18,17 +18,18 @@ impl<P: Pmap> Memory<P> {
         ensures serves { Serving P.view self.old self.new (WireCall space page) (wired_reply result) }
         ensures whole { Whole P.view P.kept self.new }
     {
+        let tables = &self.parts.tables;
         // no `Place::new` with a `?`, which would give the pmap's refusal
         if !fits_place(space, page) {
             return Err(MemoryRefusal::Range);
         }
-        let Some(region) = self.parts.tables.cover(space, page) else {
+        let Some(region) = tables.cover(space, page) else {
             return Err(MemoryRefusal::NoRegion);
         };
-        if self.parts.tables.is_wired(space, page) {
+        if tables.is_wired(space, page) {
             return Err(MemoryRefusal::Wired);
         }
-        if self.parts.tables.wired.len() >= WIRED_PLACES {
+        if tables.wired.len() >= WIRED_PLACES {
             return Err(MemoryRefusal::WiredFull);
         }
         let brought = self.parts.bring(object_page(&region, page))?;
