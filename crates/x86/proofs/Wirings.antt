@@ -29,8 +29,8 @@ module _ (st : State) where
     split zero h = absurd (omega arith)
     split (suc n) h = ⊎_elim
         (λ (e : n ≡ w.leaf).
-            let below = tally_same (wired_beside st (Some w)) (wired_beside st None) n (λ k q. other k (λ z. omega arith)) in
-            rw (own n e, below, ap (wired_beside st None) e) (omega arith))
+        let below = tally_same (wired_beside st (Some w)) (wired_beside st None) n (λ k q. other k (λ z. omega arith)) in
+        rw (own n e, below, ap (wired_beside st None) e) (omega arith))
         (λ (ne : n ≡ w.leaf → ⊥). let more = split n (omega arith) in rw (other n ne) (omega (arith, more)))
         (cases_eq n w.leaf)
 
