@@ -52,13 +52,16 @@ impl Slots {
         }
     }
 
-    // The mapping of the place goes.
+    // The mapping of the place goes. Written slot by slot: an array's `map` and `filter` copy each one out and back.
     pub fn remove(self, place: Place) -> Slots
         ensures { result.list ≡ map (after (removed place.space place.page)) self.list }
     {
-        let list = self
-            .list
-            .map(|slot| slot.filter(|entry| entry.place != place));
+        let mut list = self.list;
+        for slot in list.iter_mut() {
+            if slot.is_some_and(|held| held.place == place) {
+                *slot = None;
+            }
+        }
         Slots { list }
     }
 
@@ -96,8 +99,12 @@ impl Slots {
         requires { Room self.list at entry }
         ensures { result.list ≡ slice_set (map (after (vacated entry.place.space entry.place.page)) self.list) at (Just entry) }
     {
-        let stays = |held: &Entry| held.wired && held.place != entry.place;
-        let mut list = self.list.map(|slot| slot.filter(stays));
+        let mut list = self.list;
+        for slot in list.iter_mut() {
+            if slot.is_some_and(|held| !held.wired || held.place == entry.place) {
+                *slot = None;
+            }
+        }
         list[at] = Some(entry);
         Slots { list }
     }
