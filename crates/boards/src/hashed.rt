@@ -19,8 +19,8 @@ impl Board for Hashed {
     fn others(heap: Global, request: Request) -> Result<Vec<u32>, Stop> {
         let primary = indices_of(request.space, request.page)?.primary;
         let others = (0..PAGES)
-            .filter(|other| *other != request.page)
             .filter(|other| indices_of(request.space, *other).is_ok_and(|i| i.primary == primary))
+            .filter(|other| *other != request.page)
             .collect(heap)?;
         Ok(others)
     }

@@ -22,8 +22,9 @@ impl Board for X86 {
     // The first pages of all directory indices but the page's own.
     fn others(heap: Global, request: Request) -> Result<Vec<u32>, Stop> {
         let own = request.page / COVER;
-        let others = (0..PAGES)
-            .filter(|other| other % COVER == 0 && other / COVER != own)
+        let others = (0..PAGES / COVER)
+            .filter(|directory| *directory != own)
+            .map(|directory| directory * COVER)
             .collect(heap)?;
         Ok(others)
     }

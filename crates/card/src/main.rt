@@ -30,12 +30,13 @@ fn kind_of(reply: Option<Reply>) -> Option<Kind> {
     }
 }
 
-// The same in words.
-fn way_of(rt: &HostRuntime, reply: Option<Reply>) -> anyhow::Result<String> {
+// Prints how an access went, in words behind what it was.
+fn show_way(rt: &HostRuntime, what: &str, reply: Option<Reply>) -> anyhow::Result<()> {
     match kind_of(reply) {
-        Some(kind) => Ok(format!(in rt.alloc(); "{kind}")?),
-        None => Ok(format!(in rt.alloc(); "no access")?),
+        Some(kind) => println!(rt; "  {what}: {kind}")?,
+        None => println!(rt; "  {what}: no access")?,
     }
+    Ok(())
 }
 
 // Whether an access was accepted and is a hit.
@@ -60,14 +61,8 @@ fn check_written(rt: &HostRuntime, machine: Machine) -> anyhow::Result<bool> {
     let crowded = from_end(&seen, 5);
     let evicted = from_end(&seen, 0);
     let kept = gives_word(crowded) && gives_word(evicted);
-    println!(rt;
-        "  written, crowded by 24 places, read back: {}",
-        way_of(rt, crowded)?
-    )?;
-    println!(rt;
-        "  pushed out by two pages, read back: {}",
-        way_of(rt, evicted)?
-    )?;
+    show_way(rt, "written, crowded by 24 places, read back", crowded)?;
+    show_way(rt, "pushed out by two pages, read back", evicted)?;
     println!(rt; "  both times the word that was written: {kept}")?;
     Ok(kept)
 }
@@ -77,11 +72,8 @@ fn check_wired(rt: &HostRuntime, machine: Machine) -> anyhow::Result<bool> {
     let seen = seen(rt, machine, &wired_and_crowded(rt.alloc())?)?;
     let read = from_end(&seen, 1);
     let write = from_end(&seen, 0);
-    println!(rt;
-        "  wired, crowded by 24 places, read: {}",
-        way_of(rt, read)?
-    )?;
-    println!(rt; "  and written: {}", way_of(rt, write)?)?;
+    show_way(rt, "wired, crowded by 24 places, read", read)?;
+    show_way(rt, "and written", write)?;
     Ok(is_hit(read) && is_hit(write))
 }
 

@@ -19,7 +19,7 @@ alike_same m =
     let mark : same_mark m.2 m.2 ≡ true = mark_same m.2 in
     grind (arith, nat_tests)
 
-agreed_same : (x : Option Mapping) → agreed x x ≡ x
+pub agreed_same : (x : Option Mapping) → agreed x x ≡ x
 agreed_same None = refl
 agreed_same (Some m) = cond-true (alike m m) (Some m) None (alike_same m)
 
@@ -27,7 +27,7 @@ agreed_none : (x : Option Mapping) → agreed x None ≡ None
 agreed_none None = refl
 agreed_none (Some m) = refl
 
-twin_wired : (x y : Option Mapping) → Twin x y → is_wired y ≡ is_wired x
+pub twin_wired : (x y : Option Mapping) → Twin x y → is_wired y ≡ is_wired x
 twin_wired None None t = refl
 twin_wired None (Some n) t = t
 twin_wired (Some m) None t = sym t
@@ -48,7 +48,7 @@ stay_agreed x y x' y' t (inr e) s = inr (ap (λ z. agreed z y') e.0, agreed_wire
 
 -- the halves come to hold x and y at a place, and may forget elsewhere
 module _ (v v' w w' : View) (s p : ℕ) (x y : Option Mapping) (mv mw : ℕ → Bool) (twins : Twins v w) (one : PutForgetting v v' s p x mv) (two : PutForgetting w w' s p y mw) where
-  forget_replica : PutForgetting (replica v w) (replica v' w') s p (agreed x y) (λ f. mv f || mw f)
+  pub forget_replica : PutForgetting (replica v w) (replica v' w') s p (agreed x y) (λ f. mv f || mw f)
   forget_replica =
       record {
         here = ap (λ z. agreed z (w'.held s p)) one.here ∙ ap (agreed x) two.here;
@@ -76,7 +76,7 @@ module _ (v v' w w' : View) (s p f q : ℕ) (wired : Bool) (twins : Twins v w) (
         room = λ e c. pass.room e (crowded_moved (replica v w).held v.held s p (λ a b. sym (agreed_wired (v.held a b) (w.held a b) (twins a b))) c);
       }
 
-  never_refused : (e : PmapRefusal) → EnterRefused w s p f q wired e → ⊥
+  pub never_refused : (e : PmapRefusal) → EnterRefused w s p f q wired e → ⊥
   never_refused Range h = both_ways (fits_entry s p f q) h pass.fits
   never_refused WiredFull h =
       pass.room h.1 (crowded_moved w.held v.held s p (λ a b. sym (twin_wired (v.held a b) (w.held a b) (twins a b))) h.2)

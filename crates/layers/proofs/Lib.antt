@@ -1,2 +1,3 @@
 pub mod Shifts
 pub mod Halves
+pub mod Lifts

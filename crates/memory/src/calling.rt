@@ -27,11 +27,12 @@ impl<P: Pmap> Memory<P> {
         ensures whole { Whole P.view P.kept self.new }
     {
         let counts = self.parts.counts;
-        if counts.calls >= CALL_LIMIT {
-            return Err(MemoryRefusal::CallLimit);
+        if counts.calls < CALL_LIMIT {
+            let reply = self.serve(call);
+            self.parts.counts = added(&counts, &reply);
+            reply
+        } else {
+            Err(MemoryRefusal::CallLimit)
         }
-        let reply = self.serve(call);
-        self.parts.counts = added(&counts, &reply);
-        reply
     }
 }

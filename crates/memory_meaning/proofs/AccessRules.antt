@@ -1,12 +1,15 @@
 -- Reads, writes and wires as the rules have them. Assumes nothing.
-use Rattle.std.proofs.Common.{◌≡◌, ℕ, ◌<◌, Bool, true, false, not, ◌||◌, eqb, List, [], ◌∷◌, ◌++◌, length, get_or, is_some, Some, None, Ok, Option, sym, refl, ap, ◌∙◌, subst, ⊎_elim, arith}
+use Rattle.std.proofs.Common.{◌≡◌, ℕ, ◌<◌, ◌≤◌, Bool, true, false, not, ◌||◌, eqb, List, [], ◌∷◌, ◌++◌, length, get_or, is_some, Some, None, Ok, Err, Option, sym, refl, ap, ◌∙◌, subst, ⊎_elim, arith}
 use mathlib.Core.Path.{fun_ext}
-use Rattle.std.proofs.lemmas.Bool.{cases_Bool, cond-true, cond-false, lt-leb, both_ways}
+use Rattle.std.proofs.lemmas.Bool.{cases_Bool, cond-true, cond-false, le-leb, lt-leb, both_ways}
+use Rattle.refusal.specs.declared.memory.MemoryRefusal.{MemoryRefusal}
+use Rattle.refusal.specs.declared.memory.MemoryRefusal.TheVariants.{NoRegion, Wired as WiredRefusal, WiredFull}
 use Rattle.refusal.specs.declared.pmap.PmapRefusal.{PmapRefusal}
 use Rattle.refusal.specs.declared.pmap.PmapRefusal.TheVariants.{Range as PmapRange, WiredFull as PmapFull}
 use Rattle.pmap.specs.Meaning.{View, Mapping, PutForgetting, Stays, Crowded, EnterRefused, is_wired, marked}
 use Rattle.pmap.proofs.Crowds.{pigeonhole}
 use Rattle.pmap.specs.Ranges.{fits_place, fits_entry}
+use Rattle.calls.specs.declared.Call.{Call}
 use Rattle.calls.specs.declared.Call.TheVariants.{Read, Write, Wire}
 use Rattle.rules.specs.declared.answer.Answer.TheVariants.{Read as ReadAnswer, Wrote, Wired}
 use Rattle.rules.specs.declared.answer.Evicted.{Evicted}
@@ -17,7 +20,7 @@ use Rattle.rules.specs.Lists.{any, place}
 use Rattle.rules.specs.State.{State, lie, page_in}
 use Rattle.rules.specs.Refusals.{cover, is_place, call_refusal, wire_refusal, wants_frame}
 use Rattle.rules.specs.Paging.{resident, word_in, written_to}
-use Rattle.rules.specs.Rules.{page_at, report_of, wiring_of, with_wired, wired_to}
+use Rattle.rules.specs.Rules.{page_at, report_of, wiring_of, with_wired, wired_to, reply_by, moved_by}
 use Rattle.rules.specs.Good.{Good}
 use Rattle.rules.proofs.Lists.{place_some, placed}
 use Rattle.rules.proofs.Loads.{used_low}
@@ -25,9 +28,9 @@ use Rattle.rules.proofs.GoodKept.{good_resident}
 use Rattle.rules.proofs.Accepted.{read_passed, write_passed}
 use Rattle.tables.specs.Held.{with_dirty, word_written}
 use Rattle.memory_meaning.specs.Matches.{Matches}
-use Rattle.memory_meaning.specs.Ready.{serves, Brings, evictee, dropped_by, is_none}
-use Rattle.memory_meaning.specs.Leaves.{Serves, mapping_for}
-use Rattle.memory_meaning.specs.Reaching.{Reaches, access_refusal}
+use Rattle.memory_meaning.specs.Ready.{serves, hits, Brings, evictee, dropped_by, is_none}
+use Rattle.memory_meaning.specs.Leaves.{Leaves, Serves, mapping_for}
+use Rattle.memory_meaning.specs.Reaching.{Reaches, Unmoved, access_refusal}
 use Rattle.memory_meaning.proofs.Firsts.{place_test}
 use Rattle.memory_meaning.proofs.Reached.{page_at_is}
 use Rattle.memory_meaning.proofs.Serving.{accepted, in_range}
@@ -62,10 +65,27 @@ module _ (v w : View) (s t : State) (a p : ℕ) where
       let base = accepted v w s u (Write a p word) passes (is ∙ ap (λ z. word_written z f word) r.state ∙ sym (ap (written_to (resident s x) word) r.lies)) r.view in
       record { answer = ap (λ z. Ok (Wrote z)) r.reported ∙ base.answer; state = base.state; view = base.view }
 
--- a wire that is not refused for its place
+-- a refused call that moved nothing
+pub refused_unmoved : (v w : View) (s t : State) (c : Call) (e : MemoryRefusal) → call_refusal s c ≡ Some e → Unmoved v w s t → Serves v w s t c (Err e)
+refused_unmoved v w s t c e is un = record {
+  answer = sym (ap (reply_by s c (hits v c)) is);
+  state = un.state ∙ sym (ap (moved_by s c) is);
+  view = subst (Leaves v w s c) (sym is) un.held;
+}
+
+-- why a wire is refused
 module _ (s : State) (a p : ℕ) (fits : fits_place a p ≡ true) where
+  pub wire_nowhere : cover s.regions a p ≡ None → call_refusal s (Wire a p) ≡ Some NoRegion
+  wire_nowhere e = in_range (fits_place a p) _ fits ∙ ap (wire_refusal s a p) e
+
   module _ (r : Region) (cov : cover s.regions a p ≡ Some r) where
+    pub wire_again : any (is_place a p) s.wired ≡ true → call_refusal s (Wire a p) ≡ Some WiredRefusal
+    wire_again e = in_range (fits_place a p) _ fits ∙ ap (wire_refusal s a p) cov ∙ cond-true _ _ _ e
+
     module _ (new : any (is_place a p) s.wired ≡ false) where
+      pub wire_full : 8 ≤ length s.wired → call_refusal s (Wire a p) ≡ Some WiredFull
+      wire_full e = in_range (fits_place a p) _ fits ∙ ap (wire_refusal s a p) cov ∙ cond-false _ _ _ new ∙ cond-true _ _ _ (le-leb _ _ e)
+
       pub wire_passes : length s.wired < 8 → call_refusal s (Wire a p) ≡ wants_frame s (lie s (page_in r p))
       wire_passes e = in_range (fits_place a p) _ fits ∙ ap (wire_refusal s a p) cov ∙ cond-false _ _ _ new ∙ cond-false _ _ _ (lt-leb _ _ e)
 

@@ -1,8 +1,8 @@
 -- A served call, counted: what the public call promises. Assumes nothing.
 use Rattle.std.proofs.Common.{◌≡◌, ℕ, zero, suc, ◌+◌, ◌/◌, ◌<◌, ◌≤◌, Bool, true, false, cond, not, ◌&&◌, eqb, ltb, leb, length, Some, None, Ok, Err, Option, sym, refl, ap, ◌∙◌, subst, arith}
-use Rattle.std.proofs.lemmas.Bool.{cond-false, lt-leb}
+use Rattle.std.proofs.lemmas.Bool.{cond-true, cond-false, lt-leb, le-leb}
 use Rattle.refusal.specs.declared.memory.MemoryRefusal.{MemoryRefusal}
-use Rattle.refusal.specs.declared.memory.MemoryRefusal.TheVariants.{Range, Overlap, RegionsFull, ReadOnly, Wired as WiredRefusal, NotWired, WiredFull, NoFrame}
+use Rattle.refusal.specs.declared.memory.MemoryRefusal.TheVariants.{CallLimit, Range, Overlap, RegionsFull, ReadOnly, Wired as WiredRefusal, NotWired, WiredFull, NoFrame}
 use Rattle.pmap.specs.Meaning.{View}
 use Rattle.pmap.specs.Ranges.{fits_place, fits_protection}
 use Rattle.pmap.specs.Tally.{tally}
@@ -21,7 +21,7 @@ use Rattle.rules.specs.Paging.{evicted_by}
 use Rattle.rules.specs.Rules.{Reply, page_at, one, is_kind, of_kind, loads_in, evicted_in, evictions, savings, stored_in, refused_in, is_limit, added, counted, reply_by, reply, moved_by, after, with_counts}
 use Rattle.rules.proofs.GoodKept.{good_with_counts}
 use Rattle.memory_meaning.specs.Ready.{Ready, Bounded, hits}
-use Rattle.memory_meaning.specs.Leaves.{Serves}
+use Rattle.memory_meaning.specs.Leaves.{Serves, Leaves}
 use Rattle.memory_meaning.proofs.ReadyKept.{ready_map, ready_unmap, ready_protect, ready_unwire, ready_sync}
 use Rattle.memory_meaning.proofs.AccessReady.{ready_read, ready_write, ready_wire}
 
@@ -170,7 +170,24 @@ module _ (v w : View) (s t : State) (c : Call) (r : Reply) (ready : Ready v s) (
       (sym (cond-false (is_limit r) s.counts (added s.counts r) (ap is_limit served.answer ∙ reply_limits s c (hits v c) (call_refusal s c) (call_limits s c)))
       ∙ ap (counted s.counts) called_answer)
 
+  pub called_view : Leaves v w s c (refusal s c)
+  called_view = subst (Leaves v w s c) (sym refusal_is) served.view
+
   pub called_ready : Ready w (with_counts t (added s.counts r))
   called_ready =
       let after_it = ready_served v w s t c r ready served in
       record { good = good_with_counts t (added s.counts r) after_it.good; fits = after_it.fits; bounded = bounded_added s.counts r ready.bounded less few_stored }
+
+-- at the limit every call is refused, and no count moves
+module _ (v : View) (s : State) (c : Call) (full : 1000000 ≤ s.counts.calls) where
+  limited : refusal s c ≡ Some CallLimit
+  limited = cond-true _ _ _ (le-leb _ _ full)
+
+  pub limit_answer : Err CallLimit ≡ reply s c (hits v c)
+  limit_answer = sym (ap (reply_by s c (hits v c)) limited)
+
+  pub limit_state : s ≡ after s c (hits v c)
+  limit_state = sym (ap (λ z. with_counts z (counted s.counts (reply s c (hits v c)))) (ap (moved_by s c) limited) ∙ ap (λ z. with_counts s (counted s.counts z)) (sym limit_answer))
+
+  pub limit_view : Leaves v v s c (refusal s c)
+  limit_view = subst (Leaves v v s c) (sym limited) (λ a b. refl)

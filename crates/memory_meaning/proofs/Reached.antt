@@ -1,24 +1,26 @@
 -- An access carried to its frame: a hit, or a fault and the access again. Assumes nothing.
-use Rattle.std.proofs.Common.{◌≡◌, ℕ, Bool, true, false, eqb, Some, None, Option, sym, refl, ap, ◌∙◌, subst, inl, inr, ⊎_elim, arith}
+use Rattle.std.proofs.Common.{◌≡◌, ℕ, Bool, true, false, cond, eqb, Some, None, Option, sym, refl, ap, ◌∙◌, subst, inl, inr, ⊎_elim, arith}
 use Rattle.std.proofs.lemmas.Bool.{cases_Bool, cond-true, cond-false, both_ways, and_parts, and_from, or_cases, eqb-true, lt-ltb}
 use Rattle.refusal.specs.declared.pmap.PmapRefusal.{PmapRefusal}
 use Rattle.refusal.specs.declared.pmap.PmapRefusal.TheVariants.{Range, WiredFull}
 use Rattle.pmap.specs.Ranges.{fits_place, fits_protection, fits_entry}
 use Rattle.pmap.specs.Meaning.{Mapping, View, EnterRefused, Stays, PutForgetting, is_wired, allows, answered, marked}
 use Rattle.pmap.specs.declared.access.Access.TheVariants.{Hit, Miss}
-use Rattle.rules.specs.declared.answer.Kind.TheVariants.{Hit as HitKind}
+use Rattle.rules.specs.declared.answer.Kind.TheVariants.{Hit as HitKind, Soft, Hard}
+use Rattle.rules.specs.declared.answer.Evicted.{Evicted}
 use Rattle.rules.specs.declared.region.Region.{Region}
 use Rattle.rules.specs.State.{State, lie, page_in}
 use Rattle.rules.specs.Refusals.{cover, wants_frame}
 use Rattle.rules.specs.Paging.{resident, resident_by, evicted_by}
-use Rattle.rules.specs.Rules.{page_at, object_page, kind_of}
+use Rattle.rules.specs.Rules.{page_at, object_page, report_of, kind_of}
 use Rattle.rules.specs.Good.{Good, RegionFits}
 use Rattle.rules.proofs.Loads.{used_low}
 use Rattle.tables.specs.Held.{with_dirty}
 use Rattle.memory_meaning.specs.Matches.{Matches}
-use Rattle.memory_meaning.specs.Ready.{serves}
-use Rattle.memory_meaning.specs.Leaves.{Touches}
+use Rattle.memory_meaning.specs.Ready.{Brings, serves, evictee, dropped_by, is_none}
+use Rattle.memory_meaning.specs.Leaves.{Touches, mapping_for}
 use Rattle.memory_meaning.specs.Reaching.{Reaches}
+use Rattle.memory_meaning.proofs.Firsts.{some_inj}
 use Rattle.memory_meaning.proofs.Matching.{cases_place}
 
 -- a mapping that stays twice stays
@@ -74,6 +76,52 @@ reaches_hit v w s a p f write fits dirty hit put =
       state = ap (with_dirty s) (put.marked ∙ ap (λ d. marked d write f) (sym dirty)) ∙ sym (ap (λ z. with_dirty z (marked z.dirty write f)) still);
       view = subst (Touches v w s a p) (sym is.0) (record { here = put.here; others = forgets_all v w a p (marked v.modified write f) put });
     }
+
+-- a fault: the object page is brought in, its mapping entered, and the access hits
+module _ (v x y w : View) (s t : State) (a p f g : ℕ) (write loaded : Bool) (out : Option Evicted) (r : Region)
+    (cov : cover s.regions a p ≡ Some r)
+    (missed : serves (v.held a p) write ≡ false)
+    (brings : Brings v x s t (page_in r p) f loaded out)
+    (dirty : t.dirty ≡ x.modified)
+    (puts : PutForgetting x y a p (Some (f, r.protection, false)) x.modified)
+    (hit : Hit g ≡ answered (y.held a p) write)
+    (keeps : PutForgetting y w a p (y.held a p) (marked y.modified write g)) where
+  at : page_at s a p ≡ page_in r p
+  at = page_at_is s a p r cov
+
+  same_frame : g ≡ f
+  same_frame =
+      let is = serves_hit (y.held a p) write g hit in
+      sym is.1.2 ∙ ap (λ z. z.0) (some_inj (sym is.1.1 ∙ puts.here))
+
+  kind_is : (o : Option ℕ) → loaded ≡ is_none o → cond loaded Hard Soft ≡ kind_of false o
+  kind_is None e = cond-true _ _ _ e
+  kind_is (Some h) e = cond-false _ _ _ e
+
+  lies_at : lie (resident s (page_at s a p)) (page_at s a p) ≡ Some f
+  lies_at = ap (λ z. lie (resident s z) z) at ∙ brings.lies
+
+  pub reaches_fault : Reaches v w s (with_dirty t w.modified) a p write g (record { kind = cond loaded Hard Soft; evicted = out })
+  reaches_fault = record {
+    room = ap (λ z. wants_frame s (lie s z)) at ∙ brings.room;
+    reported =
+        ap (λ z. record { kind = z; evicted = out }) (kind_is (lie s (page_in r p)) brings.told)
+        ∙ ap (λ z. record { kind = kind_of false (lie s (page_in r p)); evicted = z }) brings.out
+        ∙ ap (λ z. record { kind = kind_of z (lie s (page_in r p)); evicted = evicted_by s (lie s (page_in r p)) }) (sym missed)
+        ∙ ap (λ z. report_of s z (serves (v.held a p) write)) (sym at);
+    lies = lies_at ∙ ap Some (sym same_frame);
+    state =
+        ap (with_dirty t) (keeps.marked ∙ ap (λ d. marked d write g) (puts.marked ∙ sym dirty))
+        ∙ ap (λ z. with_dirty z (marked z.dirty write g)) brings.state
+        ∙ ap (λ z. with_dirty (resident s z) (marked (resident s z).dirty write g)) (sym at);
+    view = subst (Touches v w s a p) (sym missed) (record {
+      here = keeps.here ∙ puts.here ∙ sym (ap (λ z. mapping_for z (lie (resident s (page_at s a p)) (page_at s a p)) false) cov ∙ ap (λ z. mapping_for (Some r) z false) lies_at);
+      others = λ c d far.
+          stays_trans (dropped_by (evictee s (lie s (page_at s a p))) (v.held c d)) (y.held c d) (w.held c d)
+          (subst (λ z. Stays z (y.held c d)) (brings.held c d ∙ ap (λ z. dropped_by (evictee s (lie s z)) (v.held c d)) (sym at)) (puts.others c d far))
+          (keeps.others c d far);
+    });
+  }
 
 -- an unwired enter of numbers in range is not refused
 pub enter_passes : (v : View) (a p f q : ℕ) (e : PmapRefusal) → fits_entry a p f q ≡ true → EnterRefused v a p f q false e → ⊥

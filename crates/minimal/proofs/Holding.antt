@@ -100,7 +100,7 @@ alone_head x xs s p alone h =
 
 -- after a change of every slot
 module _ (change : Entry → Option Entry) (tame : Tame change) where
-  keeps : (x : Option Entry) → (after change x ≡ None) ⊎ ((a b : ℕ) → is_at (after change x) a b ≡ is_at x a b)
+  pub keeps : (x : Option Entry) → (after change x ≡ None) ⊎ ((a b : ℕ) → is_at (after change x) a b ≡ is_at x a b)
   keeps None = inl refl
   keeps (Some e) =
       ⊎_elim
@@ -108,10 +108,10 @@ module _ (change : Entry → Option Entry) (tame : Tame change) where
       (λ d. inr (λ a b. ap (λ y. is_at y a b) d.1 ∙ ap (λ z. eqb z.space a && eqb z.page b) d.2))
       (tame.each e)
 
-  was_at : (x : Option Entry) (a b : ℕ) → is_at (after change x) a b ≡ true → is_at x a b ≡ true
+  pub was_at : (x : Option Entry) (a b : ℕ) → is_at (after change x) a b ≡ true → is_at x a b ≡ true
   was_at x a b h = ⊎_elim (λ q. absurd (both_ways false refl (sym (ap (λ y. is_at y a b) q) ∙ h))) (λ q. sym (q a b) ∙ h) (keeps x)
 
-  still_fits : (k : ℕ) (x : Option Entry) → Fits k x → Fits k (after change x)
+  pub still_fits : (k : ℕ) (x : Option Entry) → Fits k x → Fits k (after change x)
   still_fits k None h = refl
   still_fits k (Some e) h = ⊎_elim (λ q. subst (Fits k) (sym q) refl) (λ d. subst (Fits k) (sym d.1) (d.3 ∙ h)) (tame.each e)
 

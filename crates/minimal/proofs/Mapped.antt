@@ -1,9 +1,10 @@
--- Slots that are mapped by a closure which computes a change of each entry. Assumes nothing.
-use Rattle.std.proofs.Common.{◌≡◌, ℕ, zero, suc, ◌+◌, ◌<◌, List, map, Option, None, length, get_or, sym, ◌∙◌, ap, subst, arith}
+-- Slots that are mapped by a closure which computes a change of each entry, or that a loop writes so. Assumes nothing.
+use Rattle.std.proofs.Common.{◌≡◌, ℕ, zero, suc, ◌+◌, ◌<◌, ◌≤◌, ◌++◌, List, map, take, drop, Option, None, length, get_or, set, sym, ◌∙◌, ap, subst, arith}
 use Rattle.std.specs.Array.{IsMapOf, MapsFrom}
 use Rattle.std.specs.Fn.{Called}
 use denote.Param.Members.{Mut}
-use Rattle.std.proofs.lemmas.List.{ext_get_or, length-map, get_or-map}
+use Rattle.std.proofs.lemmas.List.{ext_get_or, length-map, get_or-map, get_or_default, take_all, drop_all, append-nil}
+use Rattle.std.proofs.lemmas.List.Edits.{map_over_more}
 use Rattle.minimal.specs.declared.entry.Entry.{Entry}
 use Rattle.minimal.specs.Entries.{after, Sound}
 use Rattle.minimal.proofs.Holding.{Tame, after_sound}
@@ -28,3 +29,21 @@ module _ {F : Type 0} (g : Mut F (Option Entry × Unit {0}) (Option Entry)) (cha
 
   pub sound_mapped : Tame change → Sound ys
   sound_mapped tame = subst Sound (sym slots_mapped) (after_sound change tame xs sound)
+
+-- a loop that writes each slot after its change, once it has written those below an index
+module _ (change : Entry → Option Entry) (xs : List (Option Entry)) (sound : Sound xs) (i : ℕ) (ys : List (Option Entry)) (so_far : ys ≡ map (after change) (take i xs) ++ drop i xs) where
+  pub one_more : (d y : Option Entry) → i < 9 → i < length ys → y ≡ after change (get_or ys i d) → set ys i y ≡ map (after change) (take (i + 1) xs) ++ drop (i + 1) xs
+  one_more d y small within is =
+      let x = get_or ys i d in
+      ap (set ys i) is ∙ map_over_more (after change) xs ys i x (omega (arith, sound.long)) so_far (get_or_default ys i d x within)
+
+  pub all_written : 9 ≤ i → ys ≡ map (after change) xs
+  all_written past =
+      let long : length xs ≤ i = omega (arith, sound.long) in
+      so_far
+      ∙ ap (λ zs. map (after change) zs ++ drop i xs) (take_all i xs long)
+      ∙ ap (λ zs. map (after change) xs ++ zs) (drop_all i xs long)
+      ∙ append-nil (map (after change) xs)
+
+  pub written_sound : Tame change → 9 ≤ i → Sound ys
+  written_sound tame past = subst Sound (sym (all_written past)) (after_sound change tame xs sound)

@@ -1,8 +1,9 @@
 -- The search for the slot of a place, step by step. Assumes nothing.
-use Rattle.std.proofs.Common.{◌≡◌, ℕ, ◌<◌, Bool, true, false, not, ltb, ⊎_elim, cond, List, [], ◌∷◌, length, get_or, Some, None, Option, refl, ap, ◌∙◌, arith}
+use Rattle.std.proofs.Common.{◌≡◌, ℕ, ◌+◌, ◌<◌, ◌≤◌, Bool, true, false, not, ltb, ⊎_elim, cond, List, [], ◌∷◌, length, get_or, drop, Some, None, Option, refl, ap, ◌∙◌, arith}
 use Rattle.std.specs.Option.{option_flatten}
 use Rattle.std.specs.List.{find, position, position_or_len}
 use Rattle.std.proofs.lemmas.Bool.{cond-true, cond-false, cases_lt, lt-ltb, not-true}
+use Rattle.std.proofs.lemmas.List.{at_drop_more, at_drop_all}
 use Rattle.std.proofs.lemmas.List.Sums.{prefix_len_passes}
 use Rattle.minimal.specs.declared.entry.Entry.{Entry}
 use Rattle.minimal.specs.Entries.{is_at, found}
@@ -18,6 +19,20 @@ found_hit x xs s p h = cond-true (is_at x s p) x (found xs s p) h
 pub found_miss : (x : Option Entry) (xs : List (Option Entry)) (s p : ℕ) → is_at x s p ≡ false → found (x ∷ xs) s p ≡ found xs s p
 unfolding found
 found_miss x xs s p h = cond-false (is_at x s p) x (found xs s p) h
+
+-- the same in a loop
+module _ (xs : List (Option Entry)) (i s p : ℕ) where
+  step : i < length xs → found (drop i xs) s p ≡ found (get_or xs i None ∷ drop (i + 1) xs) s p
+  step h = at_drop_more (λ ys. found ys s p) xs i None h
+
+  pub loop_hit : i < length xs → is_at (get_or xs i None) s p ≡ true → found (drop i xs) s p ≡ get_or xs i None
+  loop_hit h e = step h ∙ found_hit (get_or xs i None) (drop (i + 1) xs) s p e
+
+  pub loop_miss : i < length xs → is_at (get_or xs i None) s p ≡ false → found (drop i xs) s p ≡ found (drop (i + 1) xs) s p
+  loop_miss h e = step h ∙ found_miss (get_or xs i None) (drop (i + 1) xs) s p e
+
+  pub loop_end : length xs ≤ i → found (drop i xs) s p ≡ None
+  loop_end h = at_drop_all (λ ys. found ys s p) xs i h ∙ found_none s p
 
 -- as the library searches
 flatten_cond : (b : Bool) (x : Option Entry) (rest : Option (Option Entry)) → option_flatten (cond b (Some x) rest) ≡ cond b x (option_flatten rest)

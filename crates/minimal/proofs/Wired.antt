@@ -75,7 +75,7 @@ wired_there : (k : ℕ) (x : Option Entry) (s p : ℕ) → k < 8 → Fits k x �
 wired_there k None s p h fits no_room = absurd (both_ways true no_room refl)
 wired_there k (Some e) s p h fits no_room = fits ∙ lt-ltb k 8 h
 
-crowded : (xs : List (Option Entry)) (s p : ℕ) → Sound xs → ((k : ℕ) → k < 8 → is_room (get_or xs k None) s p ≡ false) → Crowded (held_in xs) s p
+pub crowded : (xs : List (Option Entry)) (s p : ℕ) → Sound xs → ((k : ℕ) → k < 8 → is_room (get_or xs k None) s p ≡ false) → Crowded (held_in xs) s p
 crowded xs s p sound full =
     record {
       space = λ i. space_in (get_or xs i None);
@@ -99,7 +99,7 @@ room_at : (x : Option Entry) (s p a b : ℕ) → is_room x s p ≡ true → is_a
 room_at None s p a b room h = absurd (both_ways false refl h)
 room_at (Some e) s p a b room h = one_place (Some e) a b s p h room
 
-not_crowded : (xs : List (Option Entry)) (s p at : ℕ) → Sound xs → at < 8 → is_room (get_or xs at None) s p ≡ true → Crowded (held_in xs) s p → ⊥
+pub not_crowded : (xs : List (Option Entry)) (s p at : ℕ) → Sound xs → at < 8 → is_room (get_or xs at None) s p ≡ true → Crowded (held_in xs) s p → ⊥
 not_crowded xs s p at sound small room c =
     let less = pigeonhole 8 9 slot below apart in omega arith
   where
@@ -148,7 +148,7 @@ room_empties : (x : Option Entry) (s p : ℕ) → is_room x s p ≡ true → aft
 room_empties None s p h = refl
 room_empties (Some e) s p h = cond-true (is_at (Some e) s p || not e.wired) None (Some e) (or_left (is_at (Some e) s p) (not e.wired) h)
 
-room_wired : (xs : List (Option Entry)) (at : ℕ) (e : Entry) → at < 8 → e.wired ≡ true → is_room (get_or xs at None) e.place.space e.place.page ≡ true → Room xs at e
+pub room_wired : (xs : List (Option Entry)) (at : ℕ) (e : Entry) → at < 8 → e.wired ≡ true → is_room (get_or xs at None) e.place.space e.place.page ≡ true → Room xs at e
 room_wired xs at e small wired room =
     record { within = omega arith; fits = wired ∙ sym (lt-ltb at 8 small); free = room_empties (get_or xs at None) e.place.space e.place.page room }
 

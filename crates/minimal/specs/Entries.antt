@@ -2,6 +2,8 @@
 use Rattle.std.specs.Prelude.{◌≡◌, ℕ, ◌<◌, Bool, true, false, cond, not, ◌&&◌, ◌||◌, List, [], ◌∷◌, length, Some, None, Option, ◌==◌, nat_lt, slice_index_or}
 use Rattle.pmap.specs.Meaning.{Mapping, View, is_wired, Elsewhere}
 use Rattle.minimal.specs.declared.entry.Entry.{Entry}
+use Rattle.minimal.specs.declared.entry.Change.{Change}
+use Rattle.minimal.specs.declared.entry.Change.TheVariants.{Vacate, Remove, Lower, Drop}
 
 abbrev pub is_at : Option Entry → ℕ → ℕ → Bool
 is_at None s p = false
@@ -32,6 +34,17 @@ dropped f e = cond (e.frame.number == f) None (Some e)
 abbrev pub after : (Entry → Option Entry) → Option Entry → Option Entry
 after change None = None
 after change (Some e) = change e
+
+-- what becomes of an entry by a change
+abbrev pub becomes : Change → Entry → Option Entry
+becomes (Vacate s p) = vacated s p
+becomes (Remove s p) = removed s p
+becomes (Lower s p) = lowered s p
+becomes (Drop f) = dropped f
+
+-- a slot after a change
+abbrev pub changed : Change → Option Entry → Option Entry
+changed c = after (becomes c)
 
 -- the slot that holds a place, as the first that does, or none
 unfoldable pub found : List (Option Entry) → ℕ → ℕ → Option Entry

@@ -1,9 +1,9 @@
-// The slots: eight for wired mappings and one for the latest entry.
+// The slots: eight for wired mappings and one for the latest entry; searches and changes of any list of slots.
 ghost use Rattle.std.specs.Prelude.{◌≡◌, true, map, take, position, replicate, slice_set, Some as Just, None as Nothing, IfSome, IsNone, ◌↔◌};
 ghost use Rattle.pmap.specs.Meaning.{Crowded};
-ghost use Rattle.minimal.specs.Entries.{after, vacated, removed, lowered, dropped, is_room, found, held_in, Sound, Room};
+ghost use Rattle.minimal.specs.Entries.{after, vacated, removed, lowered, dropped, changed, is_room, found, held_in, Sound, Room};
 
-use crate::entry::Entry;
+use crate::entry::{Change, Entry, change_slot, is_at};
 use pmap::frame::Frame;
 use pmap::place::Place;
 use pmap::range::WIRED_PLACES;
@@ -28,11 +28,7 @@ impl Slots {
     pub fn find(&self, place: Place) -> Option<Entry>
         ensures { result ≡ found self.now.list place.space place.page }
     {
-        self.list
-            .iter()
-            .find(|slot| slot.is_some_and(|entry| entry.place == place))
-            .copied()
-            .flatten()
+        find_entry(&self.list, place.space, place.page)
     }
 
     // The first of the slots for wired mappings that is empty or holds the place.
@@ -56,13 +52,16 @@ impl Slots {
         }
     }
 
-    // The mapping of the place goes.
+    // The mapping of the place goes. Written slot by slot: an array's `map` and `filter` copy each one out and back.
     pub fn remove(self, place: Place) -> Slots
         ensures { result.list ≡ map (after (removed place.space place.page)) self.list }
     {
-        let list = self
-            .list
-            .map(|slot| slot.filter(|entry| entry.place != place));
+        let mut list = self.list;
+        for slot in list.iter_mut() {
+            if slot.is_some_and(|held| held.place == place) {
+                *slot = None;
+            }
+        }
         Slots { list }
     }
 
@@ -100,9 +99,33 @@ impl Slots {
         requires { Room self.list at entry }
         ensures { result.list ≡ slice_set (map (after (vacated entry.place.space entry.place.page)) self.list) at (Just entry) }
     {
-        let stays = |held: &Entry| held.wired && held.place != entry.place;
-        let mut list = self.list.map(|slot| slot.filter(stays));
+        let mut list = self.list;
+        for slot in list.iter_mut() {
+            if slot.is_some_and(|held| !held.wired || held.place == entry.place) {
+                *slot = None;
+            }
+        }
         list[at] = Some(entry);
         Slots { list }
     }
+}
+
+// Makes a change in every slot.
+pub fn change_slots(slots: &mut [Option<Entry>], change: Change)
+    ensures { slots.new ≡ map (changed change) slots.old }
+{
+    for slot in slots.iter_mut() {
+        *slot = change_slot(*slot, change);
+    }
+}
+
+// The entry of the place.
+pub fn find_entry(slots: &[Option<Entry>], space: u8, page: u32) -> Option<Entry>
+    ensures { result ≡ found slots.now space page }
+{
+    slots
+        .iter()
+        .find(|slot| is_at(**slot, space, page))
+        .copied()
+        .flatten()
 }

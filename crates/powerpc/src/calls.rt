@@ -2,11 +2,13 @@
 ghost use Rattle.std.specs.Prelude.{◌≡◌};
 ghost use Rattle.pmap.specs.Ranges.{fits_place};
 ghost use Rattle.pmap.specs.Meaning.{answered};
+ghost use Rattle.pmap.specs.Tally.{tally};
 ghost use Rattle.powerpc.specs.Reads.{state};
+ghost use Rattle.powerpc_words.specs.State.{wired_at};
 ghost use Rattle.powerpc_words.specs.Changes.{removed, placed, entered, restricted, unwired, accessed};
 ghost use Rattle.powerpc_words.specs.Answers.{holds, wired_beside, crowded as is_crowded, or_range, enter_answer, enter_leaves, remove_leaves, lower_leaves, unwire_leaves, access_answer, access_leaves, find_answer};
 
-use crate::board::{Board, SLOTS};
+use crate::board::Board;
 use crate::mapping::Mapping;
 use pmap::access::Access;
 use pmap::place::Place;
@@ -17,24 +19,38 @@ use refusal::pmap::PmapRefusal;
 
 // The public calls check their numbers and go on: two lines each, which one function over a closure would not shorten.
 impl Board {
-    // Whether a slot other than the given one is wired.
-    #[tactic(auto, unfolding(powerpc_words::specs::Answers::wired_beside))]
-    fn wired_beside(&self, own: Option<Slot>, slot: Slot) -> bool
-        ensures { result ≡ wired_beside (state self.now) own slot }
+    // How many slots are wired.
+    // A `for` and no chain that is counted, which would look at the marks one by one: a wired enter would take twice the time.
+    fn count_wired(&self) -> usize
+        ensures { result ≡ tally (wired_at (state self.now)) 8192 }
     {
-        self.is_wired(slot) && own != Some(slot)
+        let mut count = 0;
+        for mark in &self.wired {
+            if *mark {
+                count += 1;
+            }
+        }
+        count
+    }
+
+    // How many slots other than the given one are wired.
+    #[tactic(auto, using(crate::proofs::Wirings::beside_none, crate::proofs::Wirings::beside_wired, crate::proofs::Wirings::beside_unwired))]
+    fn count_beside(&self, own: Option<Slot>) -> usize
+        ensures { result ≡ tally (wired_beside (state self.now) own) 8192 }
+    {
+        let wired = self.count_wired();
+        match own {
+            Some(slot) if self.is_wired(slot) => wired - 1,
+            _ => wired,
+        }
     }
 
     // Whether eight other slots than the place's own are wired.
+    #[tactic(auto, unfolding(powerpc_words::specs::Answers::crowded))]
     fn crowded(&self, at: Place) -> bool
         ensures { result ≡ is_crowded (state self.now) at.space at.page }
     {
-        let own = self.lookup(at);
-        let others = (0..SLOTS)
-            .map(Slot::new)
-            .filter(|&slot| self.wired_beside(own, slot))
-            .count();
-        others >= WIRED_PLACES
+        self.count_beside(self.lookup(at)) >= WIRED_PLACES
     }
 
     // Empties the slot of a place.

@@ -5,4 +5,5 @@
 pub mod changes;
 pub mod lookups;
 pub mod making;
+pub mod searches;
 pub mod table;

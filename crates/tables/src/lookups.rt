@@ -2,26 +2,14 @@
 ghost use Rattle.std.specs.Prelude.{◌≡◌, ◌<◌, None, vec_len, slice_index, slice_index_or};
 ghost use Rattle.rules.specs.Lists.{place, any};
 ghost use Rattle.rules.specs.State.{page_in};
-ghost use Rattle.rules.specs.Refusals.{covers, begins, overlaps as overlapping, is_place, in_region, on_frame, free, cover as covering};
+ghost use Rattle.rules.specs.Refusals.{begins, overlaps as overlapping, is_place, in_region, on_frame, free, cover as covering};
 
+use crate::searches::{
+    any_in_region, any_on_frame, any_overlap, find_cover, find_free, find_region, find_wired,
+    is_place,
+};
 use crate::table::Tables;
-use rules::region::{Region, WiredPlace};
-
-// Whether a region covers a page.
-fn is_cover(region: &Region, space: u8, page: u32) -> bool
-    ensures { result ≡ covers space page region.now }
-{
-    region.space == space
-        && region.first <= page
-        && u64::from(page) < u64::from(region.first) + u64::from(region.count)
-}
-
-// Whether a wired place is this one.
-fn is_place(w: &WiredPlace, space: u8, page: u32) -> bool
-    ensures { result ≡ is_place space page w.now }
-{
-    w.space == space && w.page == page
-}
+use rules::region::Region;
 
 // The object page that a page of a region stands for.
 pub fn object_page(region: &Region, page: u32) -> usize
@@ -37,37 +25,28 @@ impl Tables {
     pub fn cover(&self, space: u8, page: u32) -> Option<Region>
         ensures { result ≡ covering self.now.regions.items space page }
     {
-        self.regions
-            .iter()
-            .copied()
-            .find(|region| is_cover(region, space, page))
+        find_cover(&self.regions, space, page)
     }
 
     // The position of the region that begins at a page.
     pub fn region_at(&self, space: u8, page: u32) -> Option<usize>
         ensures { result ≡ place (begins space page) self.now.regions.items }
     {
-        self.regions
-            .iter()
-            .position(|region| region.space == space && region.first == page)
+        find_region(&self.regions, space, page)
     }
 
     // Whether some region shares a page with `count` pages from `from` on.
     pub fn overlaps(&self, space: u8, from: u32, count: u16) -> bool
         ensures { result ≡ any (overlapping space from count) self.now.regions.items }
     {
-        self.regions.iter().any(|region| {
-            region.space == space
-                && u64::from(region.first) < u64::from(from) + u64::from(count)
-                && u64::from(from) < u64::from(region.first) + u64::from(region.count)
-        })
+        any_overlap(&self.regions, space, from, count)
     }
 
     // Whether some wired place lies in a region.
     pub fn has_wired(&self, region: &Region) -> bool
         ensures { result ≡ any (in_region region.now) self.now.wired.items }
     {
-        self.wired.iter().any(|w| is_cover(region, w.space, w.page))
+        any_in_region(&self.wired, region)
     }
 
     pub fn is_wired(&self, space: u8, page: u32) -> bool
@@ -80,21 +59,21 @@ impl Tables {
     pub fn wired_at(&self, space: u8, page: u32) -> Option<usize>
         ensures { result ≡ place (is_place space page) self.now.wired.items }
     {
-        self.wired.iter().position(|w| is_place(w, space, page))
+        find_wired(&self.wired, space, page)
     }
 
     // Whether some place is wired to a frame.
     pub fn frame_wired(&self, frame: u16) -> bool
         ensures { result ≡ any (on_frame frame) self.now.wired.items }
     {
-        self.wired.iter().any(|w| w.frame == frame)
+        any_on_frame(&self.wired, frame)
     }
 
     // The position in the queue of the frame whose page goes.
     pub fn victim(&self) -> Option<usize>
         ensures { result ≡ place (free self.now.wired.items) self.now.queue.items }
     {
-        self.queue.iter().position(|&f| !self.frame_wired(f))
+        find_free(&self.queue, &self.wired)
     }
 
     // The frame of object page x.

@@ -1,5 +1,5 @@
 // A whole trace file at once: its frame count and every entry in its place.
-ghost use Rattle.std.specs.Prelude.{◌≡◌, true, is_ok, Err, MatchResult, IfOk, IfErr, string_bytes};
+ghost use Rattle.std.specs.Prelude.{◌≡◌, true, is_ok, Err, MatchResult, IfOk, IfErr, string_bytes, alloc_error};
 ghost use Rattle.std.specs.Fn.{FnOnceReturnsAt};
 ghost use Rattle.trace.specs.Format.{checked};
 ghost use Rattle.trace.specs.Listed.{Listed};
@@ -11,7 +11,7 @@ use crate::reader::{Reader, check_file};
 use crate::record::Entry;
 use refusal::code::Refusal;
 use refusal::file::FileRefusal;
-use std::alloc::{AllocError, Global};
+use std::alloc::{AllocError, AllocFailed, Global};
 
 // What stands in a trace file.
 #[derive(Drop)]
@@ -40,6 +40,14 @@ impl From<AllocError> for ReadError {
 
     fn from(e: AllocError) -> ReadError {
         ReadError::Memory(e)
+    }
+}
+
+impl<T: Drop> From<AllocFailed<T>> for ReadError {
+    ghost from_gives = { λ _ r. r ≡ Memory alloc_error };
+
+    fn from(e: AllocFailed<T>) -> ReadError {
+        ReadError::Memory(AllocError::from(e))
     }
 }
 

@@ -13,8 +13,8 @@ bring-requires g c = record {
   page = page_low g.P.Pmap.view c.self.inside.parts c.args.space c.args.page c.object_page.result c.in-Some.region c.self.invariant.ready (sym c.in-Some.ensures) c.object_page.ensures;
 }
 
-pub returns-in_err-enter : goal.returns-in_err-enter
-returns-in_err-enter g c =
+pub returns-in_err-enter-clause-serves : goal.returns-in_err-enter-clause-serves
+returns-in_err-enter-clause-serves g c =
     let m = c.self.inside.parts in
     let few : length (vec_items m.tables.wired) < 8 = omega (arith, c.len.ensures, m.tables.wired.ok.0, c.if-len-ge-WIRED_PLACES.false) in
     absurd (enters_wired g.P.Pmap.view m c.args.space c.args.page c.object_page.result c.in-Some.region c.self.invariant.ready (sym c.in-Some.ensures) c.object_page.ensures
@@ -27,8 +27,8 @@ invariant_of-self-in_err-enter g c =
     absurd (enters_wired g.P.Pmap.view m c.args.space c.args.page c.object_page.result c.in-Some.region c.self.invariant.ready (sym c.in-Some.ensures) c.object_page.ensures
     c.bring.new.self c.in_ok-brought.brought (sym c.if-not-fits_place.ensures) c.in_ok-brought.ensures.brings c.in_err-enter.field-0.0 few c.in_err-enter.ensures.meaning.0)
 
-pub returns : goal.returns
-returns g c =
+pub returns-clause-serves : goal.returns-clause-serves
+returns-clause-serves g c =
     let v = g.P.Pmap.view in
     let m = c.self.inside.parts in
     let e = c.bring.new.self in
@@ -42,4 +42,10 @@ returns g c =
     refl c.in_ok-enter.ensures.meaning.1 (c.add_wired.ensures w.modified e.counts))
 
 pub invariant_of-self-2 : goal.invariant_of-self-2
-invariant_of-self-2 g c = whole_served g.P.Pmap.view g.P.Pmap.kept _ _ _ _ _ c.self.invariant c.self.view_is (returns g c) c.in_ok-enter.ensures.kept
+invariant_of-self-2 g c = whole_served g.P.Pmap.view g.P.Pmap.kept _ _ _ _ _ c.self.invariant c.self.view_is (returns-clause-serves g c) c.in_ok-enter.ensures.kept
+
+pub returns-clause-whole : goal.returns-clause-whole
+returns-clause-whole g c = invariant_of-self-2 g c
+
+pub returns-in_err-enter-clause-whole : goal.returns-in_err-enter-clause-whole
+returns-in_err-enter-clause-whole g c = invariant_of-self-in_err-enter g c

@@ -13,8 +13,8 @@ write_word-requires g c =
     let r = c.in_ok-reached.ensures.reaches in
     reached_low (v m.pmap) (v e.pmap) (state v m) (state v e) c.args.space c.args.page c.in_ok-reached.reached.frame true c.in_ok-reached.reached.report c.self.invariant.ready.good r.0 r.1
 
-pub returns : goal.returns
-returns g c =
+pub returns-clause-serves : goal.returns-clause-serves
+returns-clause-serves g c =
     let v = g.P.Pmap.view in
     let m = c.self.inside.parts in
     let e = c.reach.new.self in
@@ -23,4 +23,7 @@ returns g c =
     (memory_state (v e.pmap) c.write_word.new.self e.counts) c.in_ok-reached.reached.frame c.args.word c.in_ok-reached.reached.report r.0 r.1 (c.write_word.ensures (v e.pmap).modified e.counts))
 
 pub invariant_of-self-2 : goal.invariant_of-self-2
-invariant_of-self-2 g c = whole_served g.P.Pmap.view g.P.Pmap.kept _ _ _ _ _ c.self.invariant c.self.view_is (returns g c) c.in_ok-reached.ensures.kept
+invariant_of-self-2 g c = whole_served g.P.Pmap.view g.P.Pmap.kept _ _ _ _ _ c.self.invariant c.self.view_is (returns-clause-serves g c) c.in_ok-reached.ensures.kept
+
+pub returns-clause-whole : goal.returns-clause-whole
+returns-clause-whole g c = invariant_of-self-2 g c
