@@ -49,6 +49,8 @@ impl Board {
     }
 
     // Whether as many other places are wired as may be.
+    // Not inlined: the other half of an enter, the taking of a leaf, is slower with this beside it in one function.
+    #[inline(never)]
     pub(super) fn is_crowded(&self, place: Place) -> bool
         ensures { result ≡ crowded (state self.now) place.space place.page }
     {
