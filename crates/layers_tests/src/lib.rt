@@ -6,6 +6,8 @@
 mod tests {
     use layers::offset::Offset;
     use layers::replica::Replica;
+    use minimal::entry::{Change, Entry, change_slot, is_at, is_room};
+    use minimal::slots::{change_slots, find_entry};
     use minimal::table::Minimal;
     use noted::Noted;
     use pmap::access::Access;
@@ -64,5 +66,24 @@ mod tests {
         let mut pile = Noted::new(Replica::new(Minimal::new(), Noted::new(Minimal::new())));
         exercise(&rt, &mut pile);
         modify(&rt, &mut pile);
+    }
+
+    // The functions over slots take entries of any numbers, also those that no pmap would hold.
+    #[test]
+    fn slots_hold_any_numbers(rt: HostRuntime) {
+        let entry = Entry {
+            space: 200,
+            page: 4_000_000,
+            frame: 60_000,
+            protection: 3,
+            wired: false,
+        };
+        assert!(rt; is_at(Some(entry), 200, 4_000_000));
+        assert!(rt; !is_room(Some(entry), 200, 4_000_001));
+        assert!(rt; change_slot(Some(entry), Change::Drop(60_000)).is_none());
+        let mut slots = [None, Some(entry)];
+        change_slots(&mut slots, Change::Lower(200, 4_000_000));
+        let low = find_entry(&slots, 200, 4_000_000).map(|found| (found.frame, found.protection));
+        assert_eq!(rt; low, Some((60_000, 1)));
     }
 }

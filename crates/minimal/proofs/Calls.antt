@@ -41,12 +41,12 @@ module _ (xs : List (Option Entry)) (sound : Sound xs) (s p : ℕ) where
   lower_at : (x : Option Entry) → is_at x s p ≡ true → mapping_of (after (lowered_at s p) x) ≡ lowered (mapping_of x)
   lower_at None h = refl
   lower_at (Some e) h =
-      ap mapping_of (cond-true (is_at (Some e) s p) (Some (record { place = e.place; frame = e.frame; protection = 1; wired = e.wired })) (Some e) h)
+      ap mapping_of (cond-true (is_at (Some e) s p) (Some (record { space = e.space; page = e.page; frame = e.frame; protection = 1; wired = e.wired })) (Some e) h)
 
   not_lowered : (x : Option Entry) → is_at x s p ≡ false → after (lowered_at s p) x ≡ x
   not_lowered None h = refl
   not_lowered (Some e) h =
-      cond-false (is_at (Some e) s p) (Some (record { place = e.place; frame = e.frame; protection = 1; wired = e.wired })) (Some e) h
+      cond-false (is_at (Some e) s p) (Some (record { space = e.space; page = e.page; frame = e.frame; protection = 1; wired = e.wired })) (Some e) h
 
   pub lowers : (marks : List Bool) (ys : List (Option Entry)) → ys ≡ map (after (lowered_at s p)) xs → Put (shown xs marks) (shown ys marks) s p (lowered ((shown xs marks).held s p))
   lowers marks ys is =
@@ -81,9 +81,9 @@ drop_one : (f : ℕ) (x : Option Entry) → mapping_of (after (dropped f) x) ≡
 drop_one f None = refl
 drop_one f (Some e) =
     ⊎_elim
-    (λ h. ap mapping_of (cond-true (eqb e.frame.number f) None (Some e) h) ∙ sym (cond-true (eqb e.frame.number f) None (mapping_of (Some e)) h))
-    (λ h. ap mapping_of (cond-false (eqb e.frame.number f) None (Some e) h) ∙ sym (cond-false (eqb e.frame.number f) None (mapping_of (Some e)) h))
-    (cases_Bool (eqb e.frame.number f))
+    (λ h. ap mapping_of (cond-true (eqb e.frame f) None (Some e) h) ∙ sym (cond-true (eqb e.frame f) None (mapping_of (Some e)) h))
+    (λ h. ap mapping_of (cond-false (eqb e.frame f) None (Some e) h) ∙ sym (cond-false (eqb e.frame f) None (mapping_of (Some e)) h))
+    (cases_Bool (eqb e.frame f))
 
 pub drops : (xs : List (Option Entry)) (sound : Sound xs) (f : ℕ) (marks : List Bool) (ys : List (Option Entry)) → ys ≡ map (after (dropped f)) xs → Dropped (shown xs marks) (shown ys marks) f
 drops xs sound f marks ys is =
@@ -95,53 +95,53 @@ drops xs sound f marks ys is =
 -- an entry is put into a slot
 module _ (xs : List (Option Entry)) (sound : Sound xs) (at : ℕ) (e : Entry) (room : Room xs at e) where
   abbrev vacant : List (Option Entry)
-  vacant = map (after (vacated e.place.space e.place.page)) xs
+  vacant = map (after (vacated e.space e.page)) xs
 
-  empty : found vacant e.place.space e.place.page ≡ None
+  empty : found vacant e.space e.page ≡ None
   empty =
-      found_after (vacated e.place.space e.place.page) (tame_vacated e.place.space e.place.page) xs e.place.space e.place.page sound.alone
+      found_after (vacated e.space e.page) (tame_vacated e.space e.page) xs e.space e.page sound.alone
       ∙ ⊎_elim
-      (λ none. ap (after (vacated e.place.space e.place.page)) none)
-      (λ h. vacates xs sound e.place.space e.place.page (found xs e.place.space e.place.page) h)
-      (found_at xs e.place.space e.place.page)
+      (λ none. ap (after (vacated e.space e.page)) none)
+      (λ h. vacates xs sound e.space e.page (found xs e.space e.page) h)
+      (found_at xs e.space e.page)
 
   pub put_keeps : Sound (set vacant at (Some e))
-  put_keeps = put_sound vacant at e (after_sound (vacated e.place.space e.place.page) (tame_vacated e.place.space e.place.page) xs sound) room.within room.fits empty
+  put_keeps = put_sound vacant at e (after_sound (vacated e.space e.page) (tame_vacated e.space e.page) xs sound) room.within room.fits empty
 
-  own_place : is_at (Some e) e.place.space e.place.page ≡ true
-  own_place = and_from (eqb e.place.space e.place.space) (eqb e.place.page e.place.page) (eq-eqb e.place.space e.place.space refl) (eq-eqb e.place.page e.place.page refl)
+  own_place : is_at (Some e) e.space e.page ≡ true
+  own_place = and_from (eqb e.space e.space) (eqb e.page e.page) (eq-eqb e.space e.space refl) (eq-eqb e.page e.page refl)
 
   held_after : (a b : ℕ) → found (set vacant at (Some e)) a b ≡ cond (is_at (Some e) a b) (Some e) (found vacant a b)
   held_after a b =
       found_put vacant at e a b
-      (omega (arith, length-map xs (after (vacated e.place.space e.place.page)), sound.long, room.within))
-      (get_or-map (after (vacated e.place.space e.place.page)) xs at None ∙ room.free)
-      (λ h. let q = one_place (Some e) a b e.place.space e.place.page h own_place in ap (λ z. found vacant z b) q.0 ∙ ap (found vacant e.place.space) q.1 ∙ empty)
+      (omega (arith, length-map xs (after (vacated e.space e.page)), sound.long, room.within))
+      (get_or-map (after (vacated e.space e.page)) xs at None ∙ room.free)
+      (λ h. let q = one_place (Some e) a b e.space e.page h own_place in ap (λ z. found vacant z b) q.0 ∙ ap (found vacant e.space) q.1 ∙ empty)
 
-  elsewhere : (a b : ℕ) → Elsewhere e.place.space e.place.page a b → mapping_of (found (set vacant at (Some e)) a b) ≡ mapping_of (after (vacated e.place.space e.place.page) (found xs a b))
+  elsewhere : (a b : ℕ) → Elsewhere e.space e.page a b → mapping_of (found (set vacant at (Some e)) a b) ≡ mapping_of (after (vacated e.space e.page) (found xs a b))
   elsewhere a b other =
       ap mapping_of (held_after a b
-      ∙ cond-false (is_at (Some e) a b) (Some e) (found vacant a b) (⊎_elim (λ h. let q = one_place (Some e) a b e.place.space e.place.page h own_place in absurd (other q.0 q.1)) (λ h. h) (cases_Bool (is_at (Some e) a b)))
-      ∙ found_after (vacated e.place.space e.place.page) (tame_vacated e.place.space e.place.page) xs a b sound.alone)
+      ∙ cond-false (is_at (Some e) a b) (Some e) (found vacant a b) (⊎_elim (λ h. let q = one_place (Some e) a b e.space e.page h own_place in absurd (other q.0 q.1)) (λ h. h) (cases_Bool (is_at (Some e) a b)))
+      ∙ found_after (vacated e.space e.page) (tame_vacated e.space e.page) xs a b sound.alone)
 
-  pub puts : (marks : List Bool) (ys : List (Option Entry)) → ys ≡ set vacant at (Some e) → PutForgetting (shown xs marks) (shown ys marks) e.place.space e.place.page (mapping_of (Some e)) (shown xs marks).modified
+  pub puts : (marks : List Bool) (ys : List (Option Entry)) → ys ≡ set vacant at (Some e) → PutForgetting (shown xs marks) (shown ys marks) e.space e.page (mapping_of (Some e)) (shown xs marks).modified
   puts marks ys is =
-      subst (λ zs. PutForgetting (shown xs marks) (shown zs marks) e.place.space e.place.page (mapping_of (Some e)) (shown xs marks).modified) (sym is) (record {
-        here = ap mapping_of (held_after e.place.space e.place.page ∙ cond-true (is_at (Some e) e.place.space e.place.page) (Some e) (found vacant e.place.space e.place.page) own_place);
-        others = λ a b other. subst (Stays (mapping_of (found xs a b))) (sym (elsewhere a b other)) (stays xs sound e.place.space e.place.page (found xs a b) (far xs sound e.place.space e.place.page a b other));
+      subst (λ zs. PutForgetting (shown xs marks) (shown zs marks) e.space e.page (mapping_of (Some e)) (shown xs marks).modified) (sym is) (record {
+        here = ap mapping_of (held_after e.space e.page ∙ cond-true (is_at (Some e) e.space e.page) (Some e) (found vacant e.space e.page) own_place);
+        others = λ a b other. subst (Stays (mapping_of (found xs a b))) (sym (elsewhere a b other)) (stays xs sound e.space e.page (found xs a b) (far xs sound e.space e.page a b other));
         marked = refl;
       })
 
-  vacated_wired : (x : Option Entry) → is_wired (mapping_of (after (vacated e.place.space e.place.page) x)) ≡ false → mapping_of (after (vacated e.place.space e.place.page) x) ≡ None
+  vacated_wired : (x : Option Entry) → is_wired (mapping_of (after (vacated e.space e.page) x)) ≡ false → mapping_of (after (vacated e.space e.page) x) ≡ None
   vacated_wired None h = refl
   vacated_wired (Some d) h =
       ⊎_elim
-      (λ q. ap mapping_of (cond-true (is_at (Some d) e.place.space e.place.page || not d.wired) None (Some d) q))
+      (λ q. ap mapping_of (cond-true (is_at (Some d) e.space e.page || not d.wired) None (Some d) q))
       (λ q.
-      let kept = cond-false (is_at (Some d) e.place.space e.place.page || not d.wired) None (Some d) q in
+      let kept = cond-false (is_at (Some d) e.space e.page || not d.wired) None (Some d) q in
       let loose = sym (ap (λ y. is_wired (mapping_of y)) kept) ∙ h in
-      absurd (both_ways (not d.wired) (or_parts (is_at (Some d) e.place.space e.place.page) (not d.wired) q).1 (ap not loose)))
-      (cases_Bool (is_at (Some d) e.place.space e.place.page || not d.wired))
+      absurd (both_ways (not d.wired) (or_parts (is_at (Some d) e.space e.page) (not d.wired) q).1 (ap not loose)))
+      (cases_Bool (is_at (Some d) e.space e.page || not d.wired))
 
-  pub only_wired : (marks : List Bool) (ys : List (Option Entry)) → ys ≡ set vacant at (Some e) → OnlyWired (shown ys marks) e.place.space e.place.page
-  only_wired marks ys is = subst (λ zs. OnlyWired (shown zs marks) e.place.space e.place.page) (sym is) (λ a b other h. elsewhere a b other ∙ vacated_wired (found xs a b) (sym (ap is_wired (elsewhere a b other)) ∙ h))
+  pub only_wired : (marks : List Bool) (ys : List (Option Entry)) → ys ≡ set vacant at (Some e) → OnlyWired (shown ys marks) e.space e.page
+  only_wired marks ys is = subst (λ zs. OnlyWired (shown zs marks) e.space e.page) (sym is) (λ a b other h. elsewhere a b other ∙ vacated_wired (found xs a b) (sym (ap is_wired (elsewhere a b other)) ∙ h))

@@ -3,6 +3,7 @@ use Rattle.std.proofs.Common.{◌≡◌, ℕ, zero, suc, ◌<◌, Bool, true, fa
 use Rattle.std.proofs.Math.ListN.{get_or-map}
 use Rattle.std.proofs.lemmas.List.{length-map, get_or-set_same, get_or-set_other}
 use Rattle.std.proofs.lemmas.Bool.{cases_Bool, cases_eq, cond-true, cond-false, and_parts, and_from, eqb-true, eq-eqb, both_ways}
+use Rattle.pmap.specs.Ranges.{fits_place, fits_frame}
 use Rattle.minimal.specs.declared.entry.Entry.{Entry}
 use Rattle.minimal.specs.Entries.{is_at, after, vacated, removed, lowered, dropped, found, Fits, Alone, Sound}
 use Rattle.minimal.proofs.Search.{found_none, found_hit, found_miss}
@@ -12,34 +13,34 @@ use Rattle.minimal.proofs.Search.{found_none, found_hit, found_miss}
 pub one_place : (x : Option Entry) (a b s p : ℕ) → is_at x a b ≡ true → is_at x s p ≡ true → (a ≡ s) × (b ≡ p)
 one_place None a b s p h k = absurd (both_ways false refl h)
 one_place (Some e) a b s p h k =
-    let x = and_parts (eqb e.place.space a) (eqb e.place.page b) h in
-    let y = and_parts (eqb e.place.space s) (eqb e.place.page p) k in
-    (sym (eqb-true e.place.space a x.0) ∙ eqb-true e.place.space s y.0, sym (eqb-true e.place.page b x.1) ∙ eqb-true e.place.page p y.1)
+    let x = and_parts (eqb e.space a) (eqb e.page b) h in
+    let y = and_parts (eqb e.space s) (eqb e.page p) k in
+    (sym (eqb-true e.space a x.0) ∙ eqb-true e.space s y.0, sym (eqb-true e.page b x.1) ∙ eqb-true e.page p y.1)
 
 cond_cases : {A : Type 0} (b : Bool) (x y : A) → (cond b x y ≡ x) ⊎ (cond b x y ≡ y)
 cond_cases true x y = inl refl
 cond_cases false x y = inr refl
 
--- a change empties a slot, or leaves the place and the kind of its entry as they are
+-- a change empties a slot, or leaves the place, the frame and the kind of its entry as they are
 pub record Tame (change : Entry → Option Entry) : Type 0 where
-  pub each : (e : Entry) → (change e ≡ None) ⊎ ((d : Entry) × (change e ≡ Some d) × (d.place ≡ e.place) × (d.wired ≡ e.wired))
+  pub each : (e : Entry) → (change e ≡ None) ⊎ ((d : Entry) × (change e ≡ Some d) × (d.space ≡ e.space) × (d.page ≡ e.page) × (d.frame ≡ e.frame) × (d.wired ≡ e.wired))
 
 pub tame_vacated : (s p : ℕ) → Tame (vacated s p)
-tame_vacated s p = record { each = λ e. ⊎_elim (λ q. inl q) (λ q. inr (e, q, refl, refl)) (cond_cases (is_at (Some e) s p || not e.wired) None (Some e)) }
+tame_vacated s p = record { each = λ e. ⊎_elim (λ q. inl q) (λ q. inr (e, q, refl, refl, refl, refl)) (cond_cases (is_at (Some e) s p || not e.wired) None (Some e)) }
 
 pub tame_removed : (s p : ℕ) → Tame (removed s p)
-tame_removed s p = record { each = λ e. ⊎_elim (λ q. inl q) (λ q. inr (e, q, refl, refl)) (cond_cases (is_at (Some e) s p) None (Some e)) }
+tame_removed s p = record { each = λ e. ⊎_elim (λ q. inl q) (λ q. inr (e, q, refl, refl, refl, refl)) (cond_cases (is_at (Some e) s p) None (Some e)) }
 
 pub tame_lowered : (s p : ℕ) → Tame (lowered s p)
 tame_lowered s p =
     record {
       each = λ e.
-          let low : Entry = record { place = e.place; frame = e.frame; protection = 1; wired = e.wired } in
-          ⊎_elim (λ q. inr (low, q, refl, refl)) (λ q. inr (e, q, refl, refl)) (cond_cases (is_at (Some e) s p) (Some low) (Some e));
+          let low : Entry = record { space = e.space; page = e.page; frame = e.frame; protection = 1; wired = e.wired } in
+          ⊎_elim (λ q. inr (low, q, refl, refl, refl, refl)) (λ q. inr (e, q, refl, refl, refl, refl)) (cond_cases (is_at (Some e) s p) (Some low) (Some e));
     }
 
 pub tame_dropped : (f : ℕ) → Tame (dropped f)
-tame_dropped f = record { each = λ e. ⊎_elim (λ q. inl q) (λ q. inr (e, q, refl, refl)) (cond_cases (eqb e.frame.number f) None (Some e)) }
+tame_dropped f = record { each = λ e. ⊎_elim (λ q. inl q) (λ q. inr (e, q, refl, refl, refl, refl)) (cond_cases (eqb e.frame f) None (Some e)) }
 
 -- the slot of a place
 
@@ -105,15 +106,19 @@ module _ (change : Entry → Option Entry) (tame : Tame change) where
   keeps (Some e) =
       ⊎_elim
       (λ q. inl q)
-      (λ d. inr (λ a b. ap (λ y. is_at y a b) d.1 ∙ ap (λ z. eqb z.space a && eqb z.page b) d.2))
+      (λ d. inr (λ a b. ap (λ y. is_at y a b) d.1 ∙ ap (λ z. eqb z a && eqb d.0.page b) d.2 ∙ ap (λ z. eqb e.space a && eqb z b) d.3))
       (tame.each e)
 
   pub was_at : (x : Option Entry) (a b : ℕ) → is_at (after change x) a b ≡ true → is_at x a b ≡ true
   was_at x a b h = ⊎_elim (λ q. absurd (both_ways false refl (sym (ap (λ y. is_at y a b) q) ∙ h))) (λ q. sym (q a b) ∙ h) (keeps x)
 
   pub still_fits : (k : ℕ) (x : Option Entry) → Fits k x → Fits k (after change x)
-  still_fits k None h = refl
-  still_fits k (Some e) h = ⊎_elim (λ q. subst (Fits k) (sym q) refl) (λ d. subst (Fits k) (sym d.1) (d.3 ∙ h)) (tame.each e)
+  still_fits k None h = (refl, refl)
+  still_fits k (Some e) h =
+      ⊎_elim
+      (λ q. subst (Fits k) (sym q) (refl, refl))
+      (λ d. subst (Fits k) (sym d.1) (d.5 ∙ h.0, ap (λ z. fits_place z d.0.page && fits_frame d.0.frame) d.2 ∙ ap (λ z. fits_place e.space z && fits_frame d.0.frame) d.3 ∙ ap (λ z. fits_place e.space e.page && fits_frame z) d.4 ∙ h.1))
+      (tame.each e)
 
   pub found_after : (xs : List (Option Entry)) (s p : ℕ) → Alone xs → found (map (after change) xs) s p ≡ after change (found xs s p)
   found_after [] s p alone = found_none s p ∙ sym (ap (after change) (found_none s p))
@@ -164,7 +169,7 @@ found_put (x ∷ xs) (suc i) e s p h free none =
         (λ r. r)
         (cases_Bool (is_at (Some e) s p))
 
-pub put_sound : (xs : List (Option Entry)) (i : ℕ) (e : Entry) → Sound xs → i < 9 → Fits i (Some e) → found xs e.place.space e.place.page ≡ None → Sound (set xs i (Some e))
+pub put_sound : (xs : List (Option Entry)) (i : ℕ) (e : Entry) → Sound xs → i < 9 → Fits i (Some e) → found xs e.space e.page ≡ None → Sound (set xs i (Some e))
 put_sound xs i e sound h fits none =
     record {
       long = length-set xs i (Some e) ∙ sound.long;
@@ -189,7 +194,7 @@ put_sound xs i e sound h fits none =
 
     twice : (k s p : ℕ) → is_at (Some e) s p ≡ true → is_at (get_or xs k None) s p ≡ true → ⊥
     twice k s p x y =
-        let own = and_from (eqb e.place.space e.place.space) (eqb e.place.page e.place.page) (eq-eqb e.place.space e.place.space refl) (eq-eqb e.place.page e.place.page refl) in
-        let same = one_place (Some e) s p e.place.space e.place.page x own in
-        let there = subst (λ a. is_at (get_or xs k None) a e.place.page ≡ true) same.0 (subst (λ b. is_at (get_or xs k None) s b ≡ true) same.1 y) in
-        both_ways false refl (sym (ap (λ z. is_at z e.place.space e.place.page) none) ∙ found_some xs k e.place.space e.place.page there)
+        let own = and_from (eqb e.space e.space) (eqb e.page e.page) (eq-eqb e.space e.space refl) (eq-eqb e.page e.page refl) in
+        let same = one_place (Some e) s p e.space e.page x own in
+        let there = subst (λ a. is_at (get_or xs k None) a e.page ≡ true) same.0 (subst (λ b. is_at (get_or xs k None) s b ≡ true) same.1 y) in
+        both_ways false refl (sym (ap (λ z. is_at z e.space e.page) none) ∙ found_some xs k e.space e.page there)

@@ -3,7 +3,7 @@ use Rattle.std.proofs.Common.{◌≡◌, ℕ, zero, suc, ◌+◌, ◌<◌, ◌�
 use Rattle.std.specs.Array.{IsMapOf, MapsFrom}
 use Rattle.std.specs.Fn.{Called}
 use denote.Param.Members.{Mut}
-use Rattle.std.proofs.lemmas.List.{ext_get_or, length-map, get_or-map, get_or_default, take_all, drop_all, append-nil}
+use Rattle.std.proofs.lemmas.List.{ext_get_or, length-map, get_or-map, get_or_default, length-append, take-append-drop, take_all, drop_all, append-nil, set-get_or}
 use Rattle.std.proofs.lemmas.List.Edits.{map_over_more}
 use Rattle.minimal.specs.declared.entry.Entry.{Entry}
 use Rattle.minimal.specs.Entries.{after, Sound}
@@ -32,10 +32,18 @@ module _ {F : Type 0} (g : Mut F (Option Entry × Unit {0}) (Option Entry)) (cha
 
 -- a loop that writes each slot after its change, once it has written those below an index
 module _ (change : Entry → Option Entry) (xs : List (Option Entry)) (sound : Sound xs) (i : ℕ) (ys : List (Option Entry)) (so_far : ys ≡ map (after change) (take i xs) ++ drop i xs) where
-  pub one_more : (d y : Option Entry) → i < 9 → i < length ys → y ≡ after change (get_or ys i d) → set ys i y ≡ map (after change) (take (i + 1) xs) ++ drop (i + 1) xs
-  one_more d y small within is =
+  written_long : length ys ≡ 9
+  written_long =
+      omega (arith, ap length so_far, length-append (map (after change) (take i xs)) (drop i xs), length-map (take i xs) (after change), length-append (take i xs) (drop i xs), ap length (take-append-drop i xs), sound.long)
+
+  pub one_more : (d y : Option Entry) → i < 9 → y ≡ after change (get_or ys i d) → set ys i y ≡ map (after change) (take (i + 1) xs) ++ drop (i + 1) xs
+  one_more d y small is =
       let x = get_or ys i d in
-      ap (set ys i) is ∙ map_over_more (after change) xs ys i x (omega (arith, sound.long)) so_far (get_or_default ys i d x within)
+      ap (set ys i) is ∙ map_over_more (after change) xs ys i x (omega (arith, sound.long)) so_far (get_or_default ys i d x (omega (arith, written_long)))
+
+  -- the slot at the index stays as it is
+  pub one_stays : (zs : List (Option Entry)) → i < 9 → zs ≡ ys → get_or ys i None ≡ after change (get_or ys i None) → zs ≡ map (after change) (take (i + 1) xs) ++ drop (i + 1) xs
+  one_stays zs small same stays = same ∙ sym (set-get_or ys i None) ∙ one_more None (get_or ys i None) small stays
 
   pub all_written : 9 ≤ i → ys ≡ map (after change) xs
   all_written past =

@@ -4,11 +4,13 @@ use Rattle.std.specs.Prelude.{IfSome, IsNone, ◌↔◌, position, take}
 use Rattle.std.proofs.lemmas.List.{get_or-take, length-take-le}
 use Rattle.std.proofs.lemmas.List.Quantifiers.{position-Some}
 use mathlib.Core.Path.{fun_ext}
-use Rattle.std.proofs.lemmas.Bool.{cases_lt, cond-true, cond-false, and_from, eq-eqb, both_ways, ltb-true, lt-ltb, le-ltb, or_left, or_right}
+use Rattle.std.proofs.lemmas.Bool.{cases_lt, cond-true, cond-false, and_from, and_parts, eqb-true, eq-eqb, both_ways, ltb-true, lt-ltb, le-ltb, or_left, or_right}
+use Rattle.pmap.specs.Ranges.{fits_place, fits_frame}
 use Rattle.pmap.specs.Meaning.{is_wired, Cleared, Crowded}
 use Rattle.pmap.proofs.Crowds.{pigeonhole}
 use Rattle.minimal.specs.declared.entry.Entry.{Entry}
-use Rattle.minimal.specs.Entries.{is_at, mapping_of, after, vacated, is_room, found, held_in, shown, Fits, Sound, Room}
+use Rattle.minimal.specs.declared.entry.Held.{Held}
+use Rattle.minimal.specs.Entries.{is_at, mapping_of, after, vacated, is_room, found, held_in, shown, in_range, entry_of, Fits, Sound, Room}
 use Rattle.minimal.proofs.Search.{found_none, found_miss, no_position}
 use Rattle.minimal.proofs.Holding.{one_place, place, found_at, found_place, found_is}
 
@@ -31,7 +33,7 @@ cleared_sound =
     record {
       long = refl;
       alone = λ i j s p h k. absurd (both_ways false refl (sym (ap (λ x. is_at x s p) (blank 9 i None)) ∙ h));
-      fits = λ k. subst (Fits k) (sym (blank 9 k None)) refl;
+      fits = λ k. subst (Fits k) (sym (blank 9 k None)) (refl, refl);
     }
 
 -- what is found stands in a slot of its kind
@@ -48,32 +50,41 @@ module _ (xs : List (Option Entry)) (sound : Sound xs) (s p : ℕ) (e : Entry) (
   pub found_here : is_at (Some e) s p ≡ true
   found_here = ap (λ x. is_at x s p) (sym is) ∙ at_place
 
+  pub found_in_range : in_range (Some e) ≡ true
+  found_in_range = kind.1
+
+  pub found_frame : e.frame < 256
+  found_frame = ltb-true e.frame 256 (and_parts (fits_place e.space e.page) (fits_frame e.frame) found_in_range).1
+
+  pub found_place_of : (e.space ≡ s) × (e.page ≡ p)
+  found_place_of = let q = and_parts (eqb e.space s) (eqb e.page p) found_here in (eqb-true e.space s q.0, eqb-true e.page p q.1)
+
   wired_slot : e.wired ≡ true → place xs s p < 8
-  wired_slot w = ltb-true (place xs s p) 8 (sym kind ∙ w)
+  wired_slot w = ltb-true (place xs s p) 8 (sym kind.0 ∙ w)
 
 -- eight slots with no room are eight other places
 
 space_in : Option Entry → ℕ
 space_in None = 0
-space_in (Some e) = e.place.space
+space_in (Some e) = e.space
 
 page_in : Option Entry → ℕ
 page_in None = 0
-page_in (Some e) = e.place.page
+page_in (Some e) = e.page
 
 own : (x : Option Entry) (s p : ℕ) → is_room x s p ≡ false → is_at x (space_in x) (page_in x) ≡ true
 unfolding space_in page_in
 own None s p h = absurd (both_ways true h refl)
-own (Some e) s p h = and_from (eqb e.place.space e.place.space) (eqb e.place.page e.place.page) (eq-eqb e.place.space e.place.space refl) (eq-eqb e.place.page e.place.page refl)
+own (Some e) s p h = and_from (eqb e.space e.space) (eqb e.page e.page) (eq-eqb e.space e.space refl) (eq-eqb e.page e.page refl)
 
 elsewhere : (x : Option Entry) (s p : ℕ) → is_room x s p ≡ false → space_in x ≡ s → page_in x ≡ p → ⊥
 unfolding space_in page_in
 elsewhere None s p h q r = both_ways true h refl
-elsewhere (Some e) s p h q r = both_ways (is_at (Some e) s p) h (and_from (eqb e.place.space s) (eqb e.place.page p) (eq-eqb e.place.space s q) (eq-eqb e.place.page p r))
+elsewhere (Some e) s p h q r = both_ways (is_at (Some e) s p) h (and_from (eqb e.space s) (eqb e.page p) (eq-eqb e.space s q) (eq-eqb e.page p r))
 
 wired_there : (k : ℕ) (x : Option Entry) (s p : ℕ) → k < 8 → Fits k x → is_room x s p ≡ false → is_wired (mapping_of x) ≡ true
 wired_there k None s p h fits no_room = absurd (both_ways true no_room refl)
-wired_there k (Some e) s p h fits no_room = fits ∙ lt-ltb k 8 h
+wired_there k (Some e) s p h fits no_room = fits.0 ∙ lt-ltb k 8 h
 
 pub crowded : (xs : List (Option Entry)) (s p : ℕ) → Sound xs → ((k : ℕ) → k < 8 → is_room (get_or xs k None) s p ≡ false) → Crowded (held_in xs) s p
 crowded xs s p sound full =
@@ -144,42 +155,50 @@ not_crowded xs s p at sound small room c =
 
 -- the slot that an entry can go into
 
+pub held_in_range : (h : Held) → in_range (Some (entry_of h)) ≡ true
+held_in_range h =
+    and_from
+    (fits_place h.place.space h.place.page)
+    (fits_frame h.frame.number)
+    (and_from (ltb h.place.space 4) (ltb h.place.page 262144) (lt-ltb h.place.space 4 h.place.space_fits) (lt-ltb h.place.page 262144 h.place.page_fits))
+    (lt-ltb h.frame.number 256 h.frame.fits)
+
 room_empties : (x : Option Entry) (s p : ℕ) → is_room x s p ≡ true → after (vacated s p) x ≡ None
 room_empties None s p h = refl
 room_empties (Some e) s p h = cond-true (is_at (Some e) s p || not e.wired) None (Some e) (or_left (is_at (Some e) s p) (not e.wired) h)
 
-pub room_wired : (xs : List (Option Entry)) (at : ℕ) (e : Entry) → at < 8 → e.wired ≡ true → is_room (get_or xs at None) e.place.space e.place.page ≡ true → Room xs at e
-room_wired xs at e small wired room =
-    record { within = omega arith; fits = wired ∙ sym (lt-ltb at 8 small); free = room_empties (get_or xs at None) e.place.space e.place.page room }
+pub room_wired : (xs : List (Option Entry)) (at : ℕ) (e : Entry) → at < 8 → e.wired ≡ true → in_range (Some e) ≡ true → is_room (get_or xs at None) e.space e.page ≡ true → Room xs at e
+room_wired xs at e small wired fits room =
+    record { within = omega arith; fits = (wired ∙ sym (lt-ltb at 8 small), fits); free = room_empties (get_or xs at None) e.space e.page room }
 
 latest_empties : (x : Option Entry) (s p : ℕ) → Fits 8 x → after (vacated s p) x ≡ None
 latest_empties None s p h = refl
-latest_empties (Some e) s p h = cond-true (is_at (Some e) s p || not e.wired) None (Some e) (or_right (is_at (Some e) s p) (not e.wired) (ap not h))
+latest_empties (Some e) s p h = cond-true (is_at (Some e) s p || not e.wired) None (Some e) (or_right (is_at (Some e) s p) (not e.wired) (ap not h.0))
 
-pub room_latest : (xs : List (Option Entry)) (e : Entry) → Sound xs → e.wired ≡ false → Room xs 8 e
-room_latest xs e sound wired =
-    record { within = omega arith; fits = wired; free = latest_empties (get_or xs 8 None) e.place.space e.place.page (sound.fits 8) }
+pub room_latest : (xs : List (Option Entry)) (e : Entry) → Sound xs → e.wired ≡ false → in_range (Some e) ≡ true → Room xs 8 e
+room_latest xs e sound wired fits =
+    record { within = omega arith; fits = (wired, fits); free = latest_empties (get_or xs 8 None) e.space e.page (sound.fits 8) }
 
 -- whether there is one
-module _ (xs : List (Option Entry)) (e : Entry) (sound : Sound xs) where
+module _ (xs : List (Option Entry)) (e : Entry) (sound : Sound xs) (fits : in_range (Some e) ≡ true) where
   abbrev room : Option Entry → Bool
-  room x = is_room x e.place.space e.place.page
+  room x = is_room x e.space e.page
 
   eight : length (take 8 xs) ≡ 8
   eight = length-take-le 8 xs (omega (arith, sound.long))
 
   abbrev Answers : Option ℕ → Type 0
-  Answers r = IfSome r (λ at. Room xs at e) × (IsNone r ↔ ((e.wired ≡ true) × Crowded (held_in xs) e.place.space e.place.page))
+  Answers r = IfSome r (λ at. Room xs at e) × (IsNone r ↔ ((e.wired ≡ true) × Crowded (held_in xs) e.space e.page))
 
   pub wired_room : (r : Option ℕ) → e.wired ≡ true → r ≡ position room (take 8 xs) → Answers r
   wired_room None w is =
       let full : (k : ℕ) → k < 8 → room (get_or xs k None) ≡ false = λ k small. ap room (sym (get_or-take 8 xs k None small)) ∙ no_position room (take 8 xs) None k is (omega (arith, eight)) in
-      (tt, ((λ _. (w, crowded xs e.place.space e.place.page sound full)), λ _. refl))
+      (tt, ((λ _. (w, crowded xs e.space e.page sound full)), λ _. refl))
   wired_room (Some at) w is =
       let found = position-Some room (take 8 xs) at None (sym is) in
       let small : at < 8 = omega (arith, eight) in
       let free : room (get_or xs at None) ≡ true = ap room (sym (get_or-take 8 xs at None small)) ∙ found.1 in
-      (room_wired xs at e small w free, ((λ n. absurd (both_ways true n refl)), λ c. absurd (not_crowded xs e.place.space e.place.page at sound small free c.1)))
+      (room_wired xs at e small w fits free, ((λ n. absurd (both_ways true n refl)), λ c. absurd (not_crowded xs e.space e.page at sound small free c.1)))
 
   pub latest_room : e.wired ≡ false → Answers (Some 8)
-  latest_room w = (room_latest xs e sound w, ((λ n. absurd (both_ways true n refl)), λ c. absurd (both_ways e.wired w c.0)))
+  latest_room w = (room_latest xs e sound w fits, ((λ n. absurd (both_ways true n refl)), λ c. absurd (both_ways e.wired w c.0)))

@@ -1,17 +1,19 @@
 -- The slots of the minimal pmap, and what they hold. Assumes nothing.
 use Rattle.std.specs.Prelude.{◌≡◌, ℕ, ◌<◌, Bool, true, false, cond, not, ◌&&◌, ◌||◌, List, [], ◌∷◌, length, Some, None, Option, ◌==◌, nat_lt, slice_index_or}
+use Rattle.pmap.specs.Ranges.{fits_place, fits_frame}
 use Rattle.pmap.specs.Meaning.{Mapping, View, is_wired, Elsewhere}
 use Rattle.minimal.specs.declared.entry.Entry.{Entry}
+use Rattle.minimal.specs.declared.entry.Held.{Held}
 use Rattle.minimal.specs.declared.entry.Change.{Change}
 use Rattle.minimal.specs.declared.entry.Change.TheVariants.{Vacate, Remove, Lower, Drop}
 
 abbrev pub is_at : Option Entry → ℕ → ℕ → Bool
 is_at None s p = false
-is_at (Some e) s p = e.place.space == s && e.place.page == p
+is_at (Some e) s p = e.space == s && e.page == p
 
 abbrev pub mapping_of : Option Entry → Option Mapping
 mapping_of None = None
-mapping_of (Some e) = Some (e.frame.number, e.protection, e.wired)
+mapping_of (Some e) = Some (e.frame, e.protection, e.wired)
 
 -- what becomes of an entry: where a place's mapping goes, and so does every unwired one
 abbrev pub vacated : ℕ → ℕ → Entry → Option Entry
@@ -24,11 +26,11 @@ removed s p e = cond (is_at (Some e) s p) None (Some e)
 -- where a place's mapping is lowered to protection 1
 abbrev pub lowered : ℕ → ℕ → Entry → Option Entry
 lowered s p e =
-    cond (is_at (Some e) s p) (Some (record { place = e.place; frame = e.frame; protection = 1; wired = e.wired })) (Some e)
+    cond (is_at (Some e) s p) (Some (record { space = e.space; page = e.page; frame = e.frame; protection = 1; wired = e.wired })) (Some e)
 
 -- where a frame's mappings go
 abbrev pub dropped : ℕ → Entry → Option Entry
-dropped f e = cond (e.frame.number == f) None (Some e)
+dropped f e = cond (e.frame == f) None (Some e)
 
 -- a slot after its entry has changed
 abbrev pub after : (Entry → Option Entry) → Option Entry → Option Entry
@@ -63,13 +65,22 @@ held_in slots s p = mapping_of (found slots s p)
 abbrev pub shown : List (Option Entry) → List Bool → View
 shown slots marks = record { held = held_in slots; modified = λ f. slice_index_or marks f false }
 
+-- an entry in range, in plain numbers
+abbrev pub entry_of : Held → Entry
+entry_of h = record { space = h.place.space; page = h.place.page; frame = h.frame.number; protection = h.protection; wired = h.wired }
+
+-- whether the place and the frame of an entry are in range
+abbrev pub in_range : Option Entry → Bool
+in_range None = true
+in_range (Some e) = fits_place e.space e.page && fits_frame e.frame
+
 -- the first eight slots are for wired mappings, the ninth is for the latest entry if that is unwired
 abbrev pub is_wired_slot : ℕ → Option Entry → Bool
 is_wired_slot k None = nat_lt k 8
 is_wired_slot k (Some e) = e.wired
 
 abbrev pub Fits : ℕ → Option Entry → Type 0
-Fits k x = is_wired_slot k x ≡ nat_lt k 8
+Fits k x = (is_wired_slot k x ≡ nat_lt k 8) × (in_range x ≡ true)
 
 -- no place stands in two slots
 abbrev pub Alone : List (Option Entry) → Type 0
@@ -84,7 +95,7 @@ pub record Sound (slots : List (Option Entry)) : Type 0 where
 pub record Room (slots : List (Option Entry)) (at : ℕ) (e : Entry) : Type 0 where
   pub within : at < 9
   pub fits : Fits at (Some e)
-  pub free : after (vacated e.place.space e.place.page) (slice_index_or slots at None) ≡ None
+  pub free : after (vacated e.space e.page) (slice_index_or slots at None) ≡ None
 
 -- only wired mappings are held but at a place
 abbrev pub OnlyWired : View → ℕ → ℕ → Type 0

@@ -1,9 +1,9 @@
 // The slots: eight for wired mappings and one for the latest entry; searches and changes of any list of slots.
-ghost use Rattle.std.specs.Prelude.{◌≡◌, true, map, take, position, replicate, slice_set, Some as Just, None as Nothing, IfSome, IsNone, ◌↔◌};
+ghost use Rattle.std.specs.Prelude.{◌≡◌, true, map, option_map, take, position, replicate, slice_set, Some as Just, None as Nothing, IfSome, IsNone, ◌↔◌};
 ghost use Rattle.pmap.specs.Meaning.{Crowded};
-ghost use Rattle.minimal.specs.Entries.{after, vacated, removed, lowered, dropped, changed, is_room, found, held_in, Sound, Room};
+ghost use Rattle.minimal.specs.Entries.{after, vacated, removed, lowered, dropped, changed, is_room, found, held_in, entry_of, Sound, Room};
 
-use crate::entry::{Change, Entry, change_slot, is_at};
+use crate::entry::{Change, Entry, Held, change_slot, is_at};
 use pmap::frame::Frame;
 use pmap::place::Place;
 use pmap::range::WIRED_PLACES;
@@ -25,10 +25,19 @@ impl Slots {
     }
 
     // The entry of the place.
-    pub fn find(&self, place: Place) -> Option<Entry>
-        ensures { result ≡ found self.now.list place.space place.page }
+    #[tactic(auto, using(crate::proofs::Wired::found_frame, crate::proofs::Wired::found_place_of))]
+    pub fn find(&self, place: Place) -> Option<Held>
+        ensures { option_map entry_of result ≡ found self.now.list place.space place.page }
     {
-        find_entry(&self.list, place.space, place.page)
+        let entry = find_entry(&self.list, place.space, place.page)?;
+        Some(Held {
+            place,
+            frame: Frame {
+                number: entry.frame,
+            },
+            protection: entry.protection,
+            wired: entry.wired,
+        })
     }
 
     // The first of the slots for wired mappings that is empty or holds the place.
@@ -37,12 +46,12 @@ impl Slots {
     {
         self.list[..WIRED_PLACES]
             .iter()
-            .position(|slot| slot.is_none_or(|entry| entry.place == place))
+            .position(|slot| slot.is_none_or(|entry| entry.is_of(place)))
     }
 
     // The slot that an entry can go into; a wired one finds none where eight other places are wired.
-    pub fn room_for(&self, entry: Entry) -> Option<usize>
-        ensures room { IfSome result (λ at. Room self.now.list at entry) }
+    pub fn room_for(&self, entry: Held) -> Option<usize>
+        ensures room { IfSome result (λ at. Room self.now.list at (entry_of entry)) }
         ensures full { IsNone result ↔ ((entry.wired ≡ true) × Crowded (held_in self.now.list) entry.place.space entry.place.page) }
     {
         if entry.wired {
@@ -58,29 +67,27 @@ impl Slots {
     {
         let mut list = self.list;
         for slot in list.iter_mut() {
-            if slot.is_some_and(|held| held.place == place) {
-                *slot = None;
+            if let Some(held) = slot {
+                if held.is_of(place) {
+                    *slot = None;
+                }
             }
         }
         Slots { list }
     }
 
-    // The mapping of the place is lowered to protection 1.
+    // The mapping of the place is lowered to protection 1. Written slot by slot, as `remove`.
     pub fn lower(self, place: Place) -> Slots
         ensures { result.list ≡ map (after (lowered place.space place.page)) self.list }
     {
-        let list = self.list.map(|slot| {
-            slot.map(|entry| {
-                if entry.place == place {
-                    Entry {
-                        protection: 1,
-                        ..entry
-                    }
-                } else {
-                    entry
+        let mut list = self.list;
+        for slot in list.iter_mut() {
+            if let Some(entry) = slot {
+                if entry.is_of(place) {
+                    entry.protection = 1;
                 }
-            })
-        });
+            }
+        }
         Slots { list }
     }
 
@@ -90,22 +97,23 @@ impl Slots {
     {
         let list = self
             .list
-            .map(|slot| slot.filter(|entry| entry.frame != frame));
+            .map(|slot| slot.filter(|entry| entry.frame != frame.number));
         Slots { list }
     }
 
     // The mapping of an entry's place goes, and so does every unwired one; then the entry stands in a slot.
-    pub fn put(self, at: usize, entry: Entry) -> Slots
-        requires { Room self.list at entry }
-        ensures { result.list ≡ slice_set (map (after (vacated entry.place.space entry.place.page)) self.list) at (Just entry) }
+    pub fn put(self, at: usize, entry: Held) -> Slots
+        requires { Room self.list at (entry_of entry) }
+        ensures { result.list ≡ slice_set (map (after (vacated entry.place.space entry.place.page)) self.list) at (Just (entry_of entry)) }
     {
+        let plain = entry.entry();
         let mut list = self.list;
         for slot in list.iter_mut() {
-            if slot.is_some_and(|held| !held.wired || held.place == entry.place) {
+            if slot.is_some_and(|held| !held.wired || held.is_of(entry.place)) {
                 *slot = None;
             }
         }
-        list[at] = Some(entry);
+        list[at] = Some(plain);
         Slots { list }
     }
 }

@@ -1,10 +1,10 @@
 // The minimal pmap: eight slots for wired mappings, one for the latest entry, and a mark for each frame.
 ghost use Rattle.std.specs.Prelude.{◌≡◌, Some as Just, OnOk};
 ghost use Rattle.pmap.specs.Meaning.{Cleared, PutForgetting, Enters, Unwires, Accesses};
-ghost use Rattle.minimal.specs.Entries.{mapping_of, found, Room, OnlyWired};
+ghost use Rattle.minimal.specs.Entries.{mapping_of, found, entry_of, Room, OnlyWired};
 ghost use Rattle.minimal.specs.Seen.{seen, UnwireForgets};
 
-use crate::entry::Entry;
+use crate::entry::Held;
 use crate::slots::{LATEST, Slots};
 use pmap::access::Access;
 use pmap::frame::Frame;
@@ -30,9 +30,9 @@ impl Minimal {
     }
 
     // Forgets what is held at an entry's place and every unwired mapping, and puts the entry into a slot.
-    fn put(&mut self, at: usize, entry: Entry)
-        requires { Room self.old.slots.list at entry }
-        ensures meaning { PutForgetting (seen self.old) (seen self.new) entry.place.space entry.place.page (mapping_of (Just entry)) (seen self.old).modified }
+    fn put(&mut self, at: usize, entry: Held)
+        requires { Room self.old.slots.list at (entry_of entry) }
+        ensures meaning { PutForgetting (seen self.old) (seen self.new) entry.place.space entry.place.page (mapping_of (Just (entry_of entry))) (seen self.old).modified }
         ensures only { OnlyWired (seen self.new) entry.place.space entry.place.page }
     {
         self.slots = self.slots.put(at, entry);
@@ -64,7 +64,7 @@ impl Pmap for Minimal {
         if !fits_entry(space, page, frame, protection) {
             return Err(PmapRefusal::Range);
         }
-        let entry = Entry {
+        let entry = Held {
             place: Place::new(space, page)?,
             frame: Frame::new(frame)?,
             protection,
@@ -98,7 +98,7 @@ impl Pmap for Minimal {
         if let Some(entry) = self.slots.find(place) {
             self.put(
                 LATEST,
-                Entry {
+                Held {
                     place,
                     wired: false,
                     ..entry

