@@ -5,8 +5,8 @@ use Rattle.std.proofs.lemmas.List.{length-map}
 use Rattle.std.proofs.lemmas.Bool.{cases_Bool, cond-true, cond-false, and_from, eq-eqb, both_ways, or_from, or_left, or_parts}
 use Rattle.pmap.specs.Meaning.{is_wired, Elsewhere, Put, PutForgetting, Dropped, lowered, without, Stays}
 use Rattle.minimal.specs.declared.entry.Entry.{Entry}
-use Rattle.minimal.specs.Entries.{is_at, mapping_of, after, vacated, removed, lowered as lowered_at, dropped, found, shown, Sound, Room, OnlyWired}
-use Rattle.minimal.proofs.Holding.{one_place, tame_vacated, tame_removed, tame_lowered, tame_dropped, found_at, found_after, after_sound, found_put, put_sound}
+use Rattle.minimal.specs.Entries.{is_at, mapping_of, after, vacated, removed, lowered as lowered_at, dropped, found, shown, place_fits, Sound, Placed, Room, OnlyWired}
+use Rattle.minimal.proofs.Holding.{one_place, tame_vacated, tame_removed, tame_lowered, tame_dropped, found_at, found_after, after_sound, after_placed, found_put, put_sound, put_placed}
 
 module _ (xs : List (Option Entry)) (sound : Sound xs) (s p : ℕ) where
   -- what is found at another place does not stand at this one
@@ -107,6 +107,10 @@ module _ (xs : List (Option Entry)) (sound : Sound xs) (at : ℕ) (e : Entry) (r
 
   pub put_keeps : Sound (set vacant at (Some e))
   put_keeps = put_sound vacant at e (after_sound (vacated e.space e.page) (tame_vacated e.space e.page) xs sound) room.within room.fits empty
+
+  pub put_keeps_placed : Placed xs → place_fits (Some e) ≡ true → Placed (set vacant at (Some e))
+  put_keeps_placed placed fits =
+      put_placed vacant at e (after_placed (vacated e.space e.page) (tame_vacated e.space e.page) xs placed) (omega (arith, length-map xs (after (vacated e.space e.page)), sound.long, room.within)) fits
 
   own_place : is_at (Some e) e.space e.page ≡ true
   own_place = and_from (eqb e.space e.space) (eqb e.page e.page) (eq-eqb e.space e.space refl) (eq-eqb e.page e.page refl)

@@ -5,7 +5,7 @@ use Rattle.std.proofs.lemmas.List.{length-map, get_or-set_same, get_or-set_other
 use Rattle.std.proofs.lemmas.Bool.{cases_Bool, cases_eq, cond-true, cond-false, and_parts, and_from, eqb-true, eq-eqb, both_ways}
 use Rattle.pmap.specs.Ranges.{fits_place, fits_frame}
 use Rattle.minimal.specs.declared.entry.Entry.{Entry}
-use Rattle.minimal.specs.Entries.{is_at, after, vacated, removed, lowered, dropped, found, Fits, Alone, Sound}
+use Rattle.minimal.specs.Entries.{is_at, after, vacated, removed, lowered, dropped, found, place_fits, Fits, Alone, Sound, Placed}
 use Rattle.minimal.proofs.Search.{found_none, found_hit, found_miss}
 
 -- at one slot
@@ -117,7 +117,15 @@ module _ (change : Entry → Option Entry) (tame : Tame change) where
   still_fits k (Some e) h =
       ⊎_elim
       (λ q. subst (Fits k) (sym q) (refl, refl))
-      (λ d. subst (Fits k) (sym d.1) (d.5 ∙ h.0, ap (λ z. fits_place z d.0.page && fits_frame d.0.frame) d.2 ∙ ap (λ z. fits_place e.space z && fits_frame d.0.frame) d.3 ∙ ap (λ z. fits_place e.space e.page && fits_frame z) d.4 ∙ h.1))
+      (λ d. subst (Fits k) (sym d.1) (d.5 ∙ h.0, ap fits_frame d.4 ∙ h.1))
+      (tame.each e)
+
+  still_placed : (x : Option Entry) → place_fits x ≡ true → place_fits (after change x) ≡ true
+  still_placed None h = refl
+  still_placed (Some e) h =
+      ⊎_elim
+      (λ q. ap place_fits q)
+      (λ d. ap place_fits d.1 ∙ ap (λ z. fits_place z d.0.page) d.2 ∙ ap (fits_place e.space) d.3 ∙ h)
       (tame.each e)
 
   pub found_after : (xs : List (Option Entry)) (s p : ℕ) → Alone xs → found (map (after change) xs) s p ≡ after change (found xs s p)
@@ -145,6 +153,9 @@ module _ (change : Entry → Option Entry) (tame : Tame change) where
     where
       before : (i s p : ℕ) → is_at (get_or (map (after change) xs) i None) s p ≡ true → is_at (get_or xs i None) s p ≡ true
       before i s p h = was_at (get_or xs i None) s p (sym (ap (λ y. is_at y s p) (get_or-map (after change) xs i None)) ∙ h)
+
+  pub after_placed : (xs : List (Option Entry)) → Placed xs → Placed (map (after change) xs)
+  after_placed xs placed k = ap place_fits (get_or-map (after change) xs k None) ∙ still_placed (get_or xs k None) (placed k)
 
 -- after an entry is put into an empty slot, at a place that no slot holds
 
@@ -198,3 +209,9 @@ put_sound xs i e sound h fits none =
         let same = one_place (Some e) s p e.space e.page x own in
         let there = subst (λ a. is_at (get_or xs k None) a e.page ≡ true) same.0 (subst (λ b. is_at (get_or xs k None) s b ≡ true) same.1 y) in
         both_ways false refl (sym (ap (λ z. is_at z e.space e.page) none) ∙ found_some xs k e.space e.page there)
+
+pub put_placed : (xs : List (Option Entry)) (i : ℕ) (e : Entry) → Placed xs → i < length xs → place_fits (Some e) ≡ true → Placed (set xs i (Some e))
+put_placed xs i e placed h fits k = ⊎_elim
+    (λ q. ap (λ z. place_fits (get_or (set xs i (Some e)) z None)) q ∙ ap place_fits (get_or-set_same xs i (Some e) None h) ∙ fits)
+    (λ q. ap place_fits (get_or-set_other xs i k (Some e) None q) ∙ placed k)
+    (cases_eq k i)

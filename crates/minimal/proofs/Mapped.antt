@@ -6,8 +6,8 @@ use denote.Param.Members.{Mut}
 use Rattle.std.proofs.lemmas.List.{ext_get_or, length-map, get_or-map, get_or_default, length-append, take-append-drop, take_all, drop_all, append-nil, set-get_or}
 use Rattle.std.proofs.lemmas.List.Edits.{map_over_more}
 use Rattle.minimal.specs.declared.entry.Entry.{Entry}
-use Rattle.minimal.specs.Entries.{after, Sound}
-use Rattle.minimal.proofs.Holding.{Tame, after_sound}
+use Rattle.minimal.specs.Entries.{after, Sound, Placed}
+use Rattle.minimal.proofs.Holding.{Tame, after_sound, after_placed}
 
 -- an array's map by a closure that computes a function
 module _ {F A B : Type 0} (g : Mut F (A × Unit {0}) B) (h : A → B) (f : F) (computes : (x : A) (y : B) (q : F) → Called g f (x, tt) y q → (y ≡ h x) × (q ≡ f)) (xs : List A) (ys : List B) (d : A) (e : B) where
@@ -29,6 +29,9 @@ module _ {F : Type 0} (g : Mut F (Option Entry × Unit {0}) (Option Entry)) (cha
 
   pub sound_mapped : Tame change → Sound ys
   sound_mapped tame = subst Sound (sym slots_mapped) (after_sound change tame xs sound)
+
+  pub placed_mapped : Tame change → Placed xs → Placed ys
+  placed_mapped tame placed = subst Placed (sym slots_mapped) (after_placed change tame xs placed)
 
 -- a loop that writes each slot after its change, once it has written those below an index
 module _ (change : Entry → Option Entry) (xs : List (Option Entry)) (sound : Sound xs) (i : ℕ) (ys : List (Option Entry)) (so_far : ys ≡ map (after change) (take i xs) ++ drop i xs) where
@@ -55,3 +58,6 @@ module _ (change : Entry → Option Entry) (xs : List (Option Entry)) (sound : S
 
   pub written_sound : Tame change → 9 ≤ i → Sound ys
   written_sound tame past = subst Sound (sym (all_written past)) (after_sound change tame xs sound)
+
+  pub written_placed : Tame change → Placed xs → 9 ≤ i → Placed ys
+  written_placed tame placed past = subst Placed (sym (all_written past)) (after_placed change tame xs placed)

@@ -5,12 +5,11 @@ use Rattle.std.proofs.lemmas.List.{get_or-take, length-take-le}
 use Rattle.std.proofs.lemmas.List.Quantifiers.{position-Some}
 use mathlib.Core.Path.{fun_ext}
 use Rattle.std.proofs.lemmas.Bool.{cases_lt, cond-true, cond-false, and_from, and_parts, eqb-true, eq-eqb, both_ways, ltb-true, lt-ltb, le-ltb, or_left, or_right}
-use Rattle.pmap.specs.Ranges.{fits_place, fits_frame}
 use Rattle.pmap.specs.Meaning.{is_wired, Cleared, Crowded}
 use Rattle.pmap.proofs.Crowds.{pigeonhole}
 use Rattle.minimal.specs.declared.entry.Entry.{Entry}
 use Rattle.minimal.specs.declared.entry.Held.{Held}
-use Rattle.minimal.specs.Entries.{is_at, mapping_of, after, vacated, is_room, found, held_in, shown, in_range, entry_of, Fits, Sound, Room}
+use Rattle.minimal.specs.Entries.{is_at, mapping_of, after, vacated, is_room, found, held_in, shown, place_fits, entry_of, Fits, Sound, Placed, Room}
 use Rattle.minimal.proofs.Search.{found_none, found_miss, no_position}
 use Rattle.minimal.proofs.Holding.{one_place, place, found_at, found_place, found_is}
 
@@ -36,6 +35,9 @@ cleared_sound =
       fits = λ k. subst (Fits k) (sym (blank 9 k None)) (refl, refl);
     }
 
+pub cleared_placed : Placed (replicate 9 None)
+cleared_placed k = ap place_fits (blank 9 k None)
+
 -- what is found stands in a slot of its kind
 module _ (xs : List (Option Entry)) (sound : Sound xs) (s p : ℕ) (e : Entry) (is : found xs s p ≡ Some e) where
   at_place : is_at (found xs s p) s p ≡ true
@@ -50,11 +52,8 @@ module _ (xs : List (Option Entry)) (sound : Sound xs) (s p : ℕ) (e : Entry) (
   pub found_here : is_at (Some e) s p ≡ true
   found_here = ap (λ x. is_at x s p) (sym is) ∙ at_place
 
-  pub found_in_range : in_range (Some e) ≡ true
-  found_in_range = kind.1
-
   pub found_frame : e.frame < 256
-  found_frame = ltb-true e.frame 256 (and_parts (fits_place e.space e.page) (fits_frame e.frame) found_in_range).1
+  found_frame = ltb-true e.frame 256 kind.1
 
   pub found_place_of : (e.space ≡ s) × (e.page ≡ p)
   found_place_of = let q = and_parts (eqb e.space s) (eqb e.page p) found_here in (eqb-true e.space s q.0, eqb-true e.page p q.1)
@@ -155,32 +154,27 @@ not_crowded xs s p at sound small room c =
 
 -- the slot that an entry can go into
 
-pub held_in_range : (h : Held) → in_range (Some (entry_of h)) ≡ true
-held_in_range h =
-    and_from
-    (fits_place h.place.space h.place.page)
-    (fits_frame h.frame.number)
-    (and_from (ltb h.place.space 4) (ltb h.place.page 262144) (lt-ltb h.place.space 4 h.place.space_fits) (lt-ltb h.place.page 262144 h.place.page_fits))
-    (lt-ltb h.frame.number 256 h.frame.fits)
+pub held_placed : (h : Held) → place_fits (Some (entry_of h)) ≡ true
+held_placed h = and_from (ltb h.place.space 4) (ltb h.place.page 262144) (lt-ltb h.place.space 4 h.place.space_fits) (lt-ltb h.place.page 262144 h.place.page_fits)
 
 room_empties : (x : Option Entry) (s p : ℕ) → is_room x s p ≡ true → after (vacated s p) x ≡ None
 room_empties None s p h = refl
 room_empties (Some e) s p h = cond-true (is_at (Some e) s p || not e.wired) None (Some e) (or_left (is_at (Some e) s p) (not e.wired) h)
 
-pub room_wired : (xs : List (Option Entry)) (at : ℕ) (e : Entry) → at < 8 → e.wired ≡ true → in_range (Some e) ≡ true → is_room (get_or xs at None) e.space e.page ≡ true → Room xs at e
+pub room_wired : (xs : List (Option Entry)) (at : ℕ) (e : Entry) → at < 8 → e.wired ≡ true → e.frame < 256 → is_room (get_or xs at None) e.space e.page ≡ true → Room xs at e
 room_wired xs at e small wired fits room =
-    record { within = omega arith; fits = (wired ∙ sym (lt-ltb at 8 small), fits); free = room_empties (get_or xs at None) e.space e.page room }
+    record { within = omega arith; fits = (wired ∙ sym (lt-ltb at 8 small), lt-ltb e.frame 256 fits); free = room_empties (get_or xs at None) e.space e.page room }
 
 latest_empties : (x : Option Entry) (s p : ℕ) → Fits 8 x → after (vacated s p) x ≡ None
 latest_empties None s p h = refl
 latest_empties (Some e) s p h = cond-true (is_at (Some e) s p || not e.wired) None (Some e) (or_right (is_at (Some e) s p) (not e.wired) (ap not h.0))
 
-pub room_latest : (xs : List (Option Entry)) (e : Entry) → Sound xs → e.wired ≡ false → in_range (Some e) ≡ true → Room xs 8 e
+pub room_latest : (xs : List (Option Entry)) (e : Entry) → Sound xs → e.wired ≡ false → e.frame < 256 → Room xs 8 e
 room_latest xs e sound wired fits =
-    record { within = omega arith; fits = (wired, fits); free = latest_empties (get_or xs 8 None) e.space e.page (sound.fits 8) }
+    record { within = omega arith; fits = (wired, lt-ltb e.frame 256 fits); free = latest_empties (get_or xs 8 None) e.space e.page (sound.fits 8) }
 
 -- whether there is one
-module _ (xs : List (Option Entry)) (e : Entry) (sound : Sound xs) (fits : in_range (Some e) ≡ true) where
+module _ (xs : List (Option Entry)) (e : Entry) (sound : Sound xs) (fits : e.frame < 256) where
   abbrev room : Option Entry → Bool
   room x = is_room x e.space e.page
 

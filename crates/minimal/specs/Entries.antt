@@ -69,10 +69,14 @@ shown slots marks = record { held = held_in slots; modified = λ f. slice_index_
 abbrev pub entry_of : Held → Entry
 entry_of h = record { space = h.place.space; page = h.place.page; frame = h.frame.number; protection = h.protection; wired = h.wired }
 
--- whether the place and the frame of an entry are in range
-abbrev pub in_range : Option Entry → Bool
-in_range None = true
-in_range (Some e) = fits_place e.space e.page && fits_frame e.frame
+-- whether what a slot holds has a frame in range, and a place in range
+abbrev pub frame_fits : Option Entry → Bool
+frame_fits None = true
+frame_fits (Some e) = fits_frame e.frame
+
+abbrev pub place_fits : Option Entry → Bool
+place_fits None = true
+place_fits (Some e) = fits_place e.space e.page
 
 -- the first eight slots are for wired mappings, the ninth is for the latest entry if that is unwired
 abbrev pub is_wired_slot : ℕ → Option Entry → Bool
@@ -80,7 +84,7 @@ is_wired_slot k None = nat_lt k 8
 is_wired_slot k (Some e) = e.wired
 
 abbrev pub Fits : ℕ → Option Entry → Type 0
-Fits k x = (is_wired_slot k x ≡ nat_lt k 8) × (in_range x ≡ true)
+Fits k x = (is_wired_slot k x ≡ nat_lt k 8) × (frame_fits x ≡ true)
 
 -- no place stands in two slots
 abbrev pub Alone : List (Option Entry) → Type 0
@@ -90,6 +94,10 @@ pub record Sound (slots : List (Option Entry)) : Type 0 where
   pub long : length slots ≡ 9
   pub alone : Alone slots
   pub fits : (k : ℕ) → Fits k (slice_index_or slots k None)
+
+-- the places that stand in slots are in range
+abbrev pub Placed : List (Option Entry) → Type 0
+Placed slots = (k : ℕ) → place_fits (slice_index_or slots k None) ≡ true
 
 -- an entry can go into a slot: the slot is the entry's own kind, and is empty once the place and the unwired mappings are forgotten
 pub record Room (slots : List (Option Entry)) (at : ℕ) (e : Entry) : Type 0 where

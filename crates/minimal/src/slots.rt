@@ -1,7 +1,7 @@
 // The slots: eight for wired mappings and one for the latest entry; searches and changes of any list of slots.
 ghost use Rattle.std.specs.Prelude.{◌≡◌, true, map, option_map, take, position, replicate, slice_set, Some as Just, None as Nothing, IfSome, IsNone, ◌↔◌};
 ghost use Rattle.pmap.specs.Meaning.{Crowded};
-ghost use Rattle.minimal.specs.Entries.{after, vacated, removed, lowered, dropped, changed, is_room, found, held_in, entry_of, Sound, Room};
+ghost use Rattle.minimal.specs.Entries.{after, vacated, removed, lowered, dropped, changed, is_room, found, held_in, entry_of, Sound, Placed, Room};
 
 use crate::entry::{Change, Entry, Held, change_slot, is_at};
 use pmap::frame::Frame;
@@ -15,6 +15,7 @@ pub const LATEST: usize = WIRED_PLACES;
 pub struct Slots {
     list: [Option<Entry>; 9],
     ghost sound: { Sound list },
+    ghost placed: { Placed list },
 }
 
 impl Slots {
@@ -67,10 +68,8 @@ impl Slots {
     {
         let mut list = self.list;
         for slot in list.iter_mut() {
-            if let Some(held) = slot {
-                if held.is_of(place) {
-                    *slot = None;
-                }
+            if slot.is_some_and(|held| held.is_of(place)) {
+                *slot = None;
             }
         }
         Slots { list }

@@ -4,7 +4,7 @@ use Rattle.std.proofs.lemmas.List.{set-get_or}
 use Rattle.minimal.specs.declared.entry.Entry.{Entry}
 use Rattle.minimal.specs.Entries.{after, lowered}
 use Rattle.minimal.proofs.Holding.{tame_lowered}
-use Rattle.minimal.proofs.Mapped.{one_more, one_stays, all_written, written_sound}
+use Rattle.minimal.proofs.Mapped.{one_more, one_stays, all_written, written_sound, written_placed}
 use Rattle.minimal.proofs.slots.Slots.lower.Goals as goal
 use Rattle.minimal.proofs.slots.Slots.lower.Goals.{in-Some+then-is_of, in-Some+else-is_of, in_default}
 
@@ -30,7 +30,12 @@ loop-slot-preserved c =
 pub invariant_of-result : goal.invariant_of-result
 invariant_of-result c =
     let l = c.loop-slot in
-    record { sound = written_sound (lowered c.args.place.space c.args.place.page) c.args.self.list c.args.self.sound l.slot-index l.slot-items l.invariant (tame_lowered c.args.place.space c.args.place.page) c.loop-slot-test.false }
+    let change = lowered c.args.place.space c.args.place.page in
+    let tame = tame_lowered c.args.place.space c.args.place.page in
+    record {
+      sound = written_sound change c.args.self.list c.args.self.sound l.slot-index l.slot-items l.invariant tame c.loop-slot-test.false;
+      placed = written_placed change c.args.self.list c.args.self.sound l.slot-index l.slot-items l.invariant tame c.args.self.placed c.loop-slot-test.false;
+    }
 
 pub returns : goal.returns
 returns c =

@@ -1,8 +1,10 @@
-use Rattle.std.proofs.Common.{◌≡◌, None, Some, get_or, set, sym, ap, ◌∙◌, subst, rules}
+use Rattle.std.proofs.Common.{◌≡◌, List, Option, map, None, Some, get_or, set, sym, ap, ◌∙◌, subst, rules}
 use borrow.Author.Tests.{tests}
 use Rattle.std.proofs.lemmas.List.{set-get_or}
-use Rattle.minimal.specs.Entries.{after, vacated, entry_of, Sound}
-use Rattle.minimal.proofs.Calls.{put_keeps}
+use Rattle.minimal.specs.declared.entry.Entry.{Entry}
+use Rattle.minimal.specs.Entries.{after, vacated, entry_of, Sound, Placed}
+use Rattle.minimal.proofs.Calls.{put_keeps, put_keeps_placed}
+use Rattle.minimal.proofs.Wired.{held_placed}
 use Rattle.minimal.proofs.Mapped.{one_more, one_stays, all_written}
 use Rattle.minimal.proofs.slots.Slots.put.Goals as goal
 use Rattle.minimal.proofs.slots.Slots.put.Goals.{then-is_some_and, else-is_some_and}
@@ -32,8 +34,11 @@ pub invariant_of-result : goal.invariant_of-result
 invariant_of-result c =
     let l = c.loop-slot in
     let e = c.args.entry in
-    let is = all_written (vacated e.place.space e.place.page) c.args.self.list c.args.self.sound l.slot-index l.slot-items l.invariant c.loop-slot-test.false in
+    let change = vacated e.place.space e.place.page in
+    let is = all_written change c.args.self.list c.args.self.sound l.slot-index l.slot-items l.invariant c.loop-slot-test.false in
+    let of_result = λ (Facts : List (Option Entry) → Type 0). λ (facts : Facts (set (map (after change) c.args.self.list) c.args.at (Some (entry_of e)))).
+    subst (λ x. Facts (set l.slot-items c.args.at (Some x))) (sym c.entry-plain.ensures) (subst (λ ys. Facts (set ys c.args.at (Some (entry_of e)))) (sym is) facts) in
     record {
-      sound = subst (λ x. Sound (set l.slot-items c.args.at (Some x))) (sym c.entry-plain.ensures)
-          (subst (λ ys. Sound (set ys c.args.at (Some (entry_of e)))) (sym is) (put_keeps c.args.self.list c.args.self.sound c.args.at (entry_of e) c.requires));
+      sound = of_result Sound (put_keeps c.args.self.list c.args.self.sound c.args.at (entry_of e) c.requires);
+      placed = of_result Placed (put_keeps_placed c.args.self.list c.args.self.sound c.args.at (entry_of e) c.requires c.args.self.placed (held_placed e));
     }

@@ -4,14 +4,14 @@ use Rattle.minimal.specs.declared.entry.Held.{Held}
 use Rattle.pmap.specs.Meaning.{Unwired}
 use Rattle.minimal.specs.Entries.{mapping_of, entry_of, found}
 use Rattle.minimal.specs.Seen.{seen, UnwireForgets}
-use Rattle.minimal.proofs.Wired.{held_in_range, room_latest}
+use Rattle.minimal.proofs.Wired.{room_latest}
 use Rattle.minimal.proofs.table.MinimalPmap.unwire.Goals as goal
 
 pub put-requires : goal.put-requires
 put-requires c =
     let held = c.in-Some.entry in
     let entry : Held = record { place = c.in_ok-place.place; frame = held.frame; protection = held.protection; wired = false } in
-    room_latest c.args.self.now.slots.list (entry_of entry) c.args.self.now.slots.sound refl (held_in_range entry)
+    room_latest c.args.self.now.slots.list (entry_of entry) c.args.self.now.slots.sound refl held.frame.fits
 
 pub returns-in-Some : goal.returns-in-Some
 returns-in-Some c =
