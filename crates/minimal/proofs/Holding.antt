@@ -3,9 +3,9 @@ use Rattle.std.proofs.Common.{◌≡◌, ℕ, zero, suc, ◌<◌, Bool, true, fa
 use Rattle.std.proofs.Math.ListN.{get_or-map}
 use Rattle.std.proofs.lemmas.List.{length-map, get_or-set_same, get_or-set_other}
 use Rattle.std.proofs.lemmas.Bool.{cases_Bool, cases_eq, cond-true, cond-false, and_parts, and_from, eqb-true, eq-eqb, both_ways}
-use Rattle.pmap.specs.Ranges.{fits_place, fits_frame}
+use Rattle.pmap.specs.Ranges.{fits_place}
 use Rattle.minimal.specs.declared.entry.Entry.{Entry}
-use Rattle.minimal.specs.Entries.{is_at, after, vacated, removed, lowered, dropped, found, place_fits, Fits, Alone, Sound, Placed}
+use Rattle.minimal.specs.Entries.{is_at, after, vacated, removed, lowered, dropped, found, frame_fits, place_fits, Fits, Alone, Sound, Placed}
 use Rattle.minimal.proofs.Search.{found_none, found_hit, found_miss}
 
 -- at one slot
@@ -21,26 +21,26 @@ cond_cases : {A : Type 0} (b : Bool) (x y : A) → (cond b x y ≡ x) ⊎ (cond 
 cond_cases true x y = inl refl
 cond_cases false x y = inr refl
 
--- a change empties a slot, or leaves the place, the frame and the kind of its entry as they are
+-- a change empties a slot, or leaves the place and the kind of its entry as they are, and its frame in range
 pub record Tame (change : Entry → Option Entry) : Type 0 where
-  pub each : (e : Entry) → (change e ≡ None) ⊎ ((d : Entry) × (change e ≡ Some d) × (d.space ≡ e.space) × (d.page ≡ e.page) × (d.frame ≡ e.frame) × (d.wired ≡ e.wired))
+  pub each : (e : Entry) → (change e ≡ None) ⊎ ((d : Entry) × (change e ≡ Some d) × (d.space ≡ e.space) × (d.page ≡ e.page) × (d.wired ≡ e.wired) × (frame_fits (Some e) ≡ true → frame_fits (Some d) ≡ true))
 
 pub tame_vacated : (s p : ℕ) → Tame (vacated s p)
-tame_vacated s p = record { each = λ e. ⊎_elim (λ q. inl q) (λ q. inr (e, q, refl, refl, refl, refl)) (cond_cases (is_at (Some e) s p || not e.wired) None (Some e)) }
+tame_vacated s p = record { each = λ e. ⊎_elim (λ q. inl q) (λ q. inr (e, q, refl, refl, refl, λ h. h)) (cond_cases (is_at (Some e) s p || not e.wired) None (Some e)) }
 
 pub tame_removed : (s p : ℕ) → Tame (removed s p)
-tame_removed s p = record { each = λ e. ⊎_elim (λ q. inl q) (λ q. inr (e, q, refl, refl, refl, refl)) (cond_cases (is_at (Some e) s p) None (Some e)) }
+tame_removed s p = record { each = λ e. ⊎_elim (λ q. inl q) (λ q. inr (e, q, refl, refl, refl, λ h. h)) (cond_cases (is_at (Some e) s p) None (Some e)) }
 
 pub tame_lowered : (s p : ℕ) → Tame (lowered s p)
 tame_lowered s p =
     record {
       each = λ e.
           let low : Entry = record { space = e.space; page = e.page; frame = e.frame; protection = 1; wired = e.wired } in
-          ⊎_elim (λ q. inr (low, q, refl, refl, refl, refl)) (λ q. inr (e, q, refl, refl, refl, refl)) (cond_cases (is_at (Some e) s p) (Some low) (Some e));
+          ⊎_elim (λ q. inr (low, q, refl, refl, refl, λ h. h)) (λ q. inr (e, q, refl, refl, refl, λ h. h)) (cond_cases (is_at (Some e) s p) (Some low) (Some e));
     }
 
 pub tame_dropped : (f : ℕ) → Tame (dropped f)
-tame_dropped f = record { each = λ e. ⊎_elim (λ q. inl q) (λ q. inr (e, q, refl, refl, refl, refl)) (cond_cases (eqb e.frame f) None (Some e)) }
+tame_dropped f = record { each = λ e. ⊎_elim (λ q. inl q) (λ q. inr (e, q, refl, refl, refl, λ h. h)) (cond_cases (eqb e.frame f) None (Some e)) }
 
 -- the slot of a place
 
@@ -117,7 +117,7 @@ module _ (change : Entry → Option Entry) (tame : Tame change) where
   still_fits k (Some e) h =
       ⊎_elim
       (λ q. subst (Fits k) (sym q) (refl, refl))
-      (λ d. subst (Fits k) (sym d.1) (d.5 ∙ h.0, ap fits_frame d.4 ∙ h.1))
+      (λ d. subst (Fits k) (sym d.1) (d.4 ∙ h.0, d.5 h.1))
       (tame.each e)
 
   still_placed : (x : Option Entry) → place_fits x ≡ true → place_fits (after change x) ≡ true
