@@ -19,7 +19,7 @@ module _ {F A B : Type 0} (g : Mut F (A × Unit {0}) B) (h : A → B) (f : F) (c
   at_each (suc n) i (suc k) j is m small =
       at_each n (i + 1) k j (omega arith) (subst (λ p. MapsFrom g p xs ys (i + 1) n) (computes m.1 m.2 m.0 m.5).1 m.6) (omega arith)
 
-  map_is : (n : ℕ) → IsMapOf g f xs ys n → length xs ≡ n → ys ≡ map h xs
+  pub map_is : (n : ℕ) → IsMapOf g f xs ys n → length xs ≡ n → ys ≡ map h xs
   map_is n m long =
       ext_get_or e ys (map h xs) (m.long ∙ sym long ∙ sym (length-map xs h)) (λ i small. at_each n 0 i i (omega arith) m.each (omega (arith, m.long)) ∙ sym (get_or-map h xs i d e (omega (arith, m.long))))
 
